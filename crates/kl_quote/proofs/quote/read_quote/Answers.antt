@@ -1,0 +1,23 @@
+use Rattle.std.proofs.Common.{rules}
+use Rattle.kl_quote.proofs.Splitting.{quote_faultless, quote_unique, only_from}
+use Rattle.kl_quote.proofs.quote.read_quote.Goals as goal
+
+pub returns-in_default-clause-only : goal.returns-in_default-clause-only
+returns-in_default-clause-only c attest signature values quote =
+    quote_faultless c.args.text.now attest signature values 0 quote c.in_default.ensures.none
+
+pub returns-in_err-attest-clause-only : goal.returns-in_err-attest-clause-only
+returns-in_err-attest-clause-only c =
+    only_from c.args.text.now c.from_residual.result (search rules) (search rules)
+
+pub returns-in_err-signature-clause-only : goal.returns-in_err-signature-clause-only
+returns-in_err-signature-clause-only c =
+    only_from c.args.text.now c.from_residual-in_err-signature.result (search rules) (search rules)
+
+pub returns-in_err-pcrs-clause-only : goal.returns-in_err-pcrs-clause-only
+returns-in_err-pcrs-clause-only c =
+    only_from c.args.text.now c.from_residual-in_err-pcrs.result (search rules) (search rules)
+
+pub returns-clause-only : goal.returns-clause-only
+returns-clause-only c attest signature values quote =
+    quote_unique c.args.text.now c.in_ok-attest.attest c.in_ok-signature.signature c.in_ok-pcrs.pcrs attest signature values (search rules) quote

@@ -1,0 +1,2 @@
+pub mod QuoteText
+pub mod Size

@@ -1,0 +1,13 @@
+//! The text of a TPM quote, and the evidence that an agent answers with.
+#![tactic(auto)]
+
+mod evidence;
+mod memory;
+mod quote;
+
+pub use evidence::{EVIDENCE_LIMIT, Evidence};
+pub use memory::Memory;
+pub use quote::{Quote, QuoteFault, read_quote, write_quote};
+
+#[cfg(test)]
+mod tests;

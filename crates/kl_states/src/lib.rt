@@ -1,0 +1,19 @@
+//! Plain values that the other crates share: an agent's name, a nonce, texts and bytes that are
+//! compared by what they hold, and the verdict of an appraisal with its causes.
+#![tactic(auto)]
+
+mod agent_id;
+mod blob;
+mod name;
+mod nonce;
+mod text;
+mod verdict;
+
+pub use agent_id::AgentId;
+pub use blob::Blob;
+pub use nonce::Nonce;
+pub use text::Text;
+pub use verdict::{AttestCause, EntryCause, FailedCause, InvalidCause, LineCause, Verdict};
+
+#[cfg(test)]
+mod tests;

@@ -1,0 +1,9 @@
+use Rattle.std.proofs.Common.{arith}
+use Rattle.kl_attest.proofs.Quotes.{is_found, is_only}
+use Rattle.kl_attest.proofs.reading.read_attest.Goals as goal
+
+pub returns-clause-found : goal.returns-clause-found
+returns-clause-found c = is_found c.args.bytes.now c.read_whole.result (λ i. omega (arith, c.type_inv.bytes i)) c.read_whole.ensures
+
+pub returns-clause-only : goal.returns-clause-only
+returns-clause-only c = λ q spells. is_only c.args.bytes.now c.read_whole.result q c.read_whole.ensures spells

@@ -1,0 +1,6 @@
+pub mod Grammar
+pub mod Pcrs
+pub mod Faults
+pub mod Cursors
+pub mod Readers
+pub mod Views

@@ -1,0 +1,5 @@
+pub mod Pieces
+pub mod Cuts
+pub mod Hexadecimal
+pub mod Parts
+pub mod Spelling

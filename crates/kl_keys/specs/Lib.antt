@@ -1,0 +1,4 @@
+pub mod Hmac
+pub mod Relations
+pub mod Causes
+pub mod Mac

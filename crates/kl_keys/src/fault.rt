@@ -1,0 +1,47 @@
+//! Why keys give no answer.
+
+ghost use Rattle.std.specs.Prelude.{◌≡◌, ⊤};
+ghost use Rattle.kl_keys.specs.declared.fault.KeysError.TheVariants as errors;
+
+use std::alloc::AllocError;
+
+/// The keys could not be asked; their count of faults rose.
+#[derive(Clone, Copy, Debug, PartialEq, Eq, Drop)]
+pub struct KeysFault;
+
+/// Memory ran out.
+#[derive(Clone, Copy, Debug, PartialEq, Eq, Drop)]
+pub struct Memory;
+
+/// Why there is no signature.
+#[derive(Clone, Copy, Debug, PartialEq, Eq, Drop)]
+pub enum KeysError {
+    /// The keys could not be asked; their count of faults rose.
+    Fault,
+    /// Memory ran out.
+    Memory,
+}
+
+impl From<KeysFault> for KeysError {
+    ghost from_gives = { λ _ e. e ≡ errors.Fault };
+
+    fn from(_fault: KeysFault) -> KeysError {
+        KeysError::Fault
+    }
+}
+
+impl From<AllocError> for KeysError {
+    ghost from_gives = { λ _ e. e ≡ errors.Memory };
+
+    fn from(_failed: AllocError) -> KeysError {
+        KeysError::Memory
+    }
+}
+
+impl From<AllocError> for Memory {
+    ghost from_gives = { λ _ _. ⊤ };
+
+    fn from(_failed: AllocError) -> Memory {
+        Memory
+    }
+}

@@ -1,0 +1,16 @@
+//! Keys from outside: who signed a message. The trait `Keys` is what the verifier asks, HMAC
+//! (RFC 2104) is computed here, and `MacKeys` are keys in memory for tests.
+#![tactic(auto)]
+
+mod fault;
+mod hmac;
+mod keys;
+mod mac_keys;
+
+pub use fault::{KeysError, KeysFault, Memory};
+pub use hmac::{hmac256, hmac384};
+pub use keys::Keys;
+pub use mac_keys::MacKeys;
+
+#[cfg(test)]
+mod tests;

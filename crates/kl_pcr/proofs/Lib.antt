@@ -1,0 +1,4 @@
+pub mod MaskFacts
+pub mod ReplayFacts
+pub mod SelectionFacts
+pub mod StaticFacts

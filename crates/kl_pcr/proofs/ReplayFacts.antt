@@ -1,0 +1,75 @@
+-- Laws of a replay.
+use Rattle.std.proofs.Common.{◌≡◌, ℕ, true, false, if◌then◌else◌, List, [], ◌∷◌, ◌++◌, length, map, reverse, refl, sym, ap, ◌∙◌}
+use Rattle.std.proofs.lemmas.List.{length-replicate, map-append, reverse-append, reverse-reverse}
+use Rattle.std.proofs.lemmas.List.Sums.{fold_push, fold-append}
+use Rattle.kl_bank.specs.declared.bank.Bank.{Bank}
+use Rattle.kl_bank.specs.Banks.{extended, hash_of, ones_of, size_of, zeros_of}
+use Rattle.kl_bank.proofs.Lengths.{length-hash_of}
+use Rattle.kl_entry.specs.Entries.{EntryFields, data_of, is_violation}
+use Rattle.kl_pcr.specs.Measured.{measured_of}
+use Rattle.kl_pcr.specs.Replay.{folded, replay_back, replay_of}
+
+-- ---- sizes
+
+-- an extended PCR has the bank's size
+pub length-extended : (bank : Bank) (old added : List ℕ) → length (extended bank old added) ≡ size_of bank
+length-extended bank old added = length-hash_of bank (old ++ added)
+
+-- so has what an entry is measured as
+pub length-measured_of : (bank : Bank) (e : EntryFields) → length (measured_of bank e) ≡ size_of bank
+length-measured_of bank e =
+    elim (is_violation e) as (λ v. length (if v then ones_of bank else hash_of bank (data_of e)) ≡ size_of bank) [
+      | true ↦ length-replicate (size_of bank) 0xFF
+      | false ↦ length-hash_of bank (data_of e)
+    ]
+
+length-replay_back : (bank : Bank) (entries : List EntryFields) → length (replay_back bank entries) ≡ size_of bank
+unfolding replay_back
+length-replay_back bank [] = length-replicate (size_of bank) 0
+length-replay_back bank (e ∷ earlier) = length-extended bank (replay_back bank earlier) (measured_of bank e)
+
+-- and what a list replays to
+pub length-replay_of : (bank : Bank) (entries : List EntryFields) → length (replay_of bank entries) ≡ size_of bank
+length-replay_of bank entries = length-replay_back bank (reverse entries)
+
+-- ---- the last entry, and what comes after a list
+
+-- no entry leaves zeros
+pub replay_of-nil : (bank : Bank) → replay_of bank [] ≡ zeros_of bank
+unfolding replay_back
+replay_of-nil bank = refl
+
+-- the last entry is extended into what the others left
+pub replay_of-append : (bank : Bank) (entries : List EntryFields) (e : EntryFields)
+    → replay_of bank (entries ++ e ∷ []) ≡ extended bank (replay_of bank entries) (measured_of bank e)
+unfolding replay_back
+replay_of-append bank entries e = ap (replay_back bank) (reverse-append entries (e ∷ []))
+
+replay_back-folded : (bank : Bank) (entries : List EntryFields)
+    → replay_back bank entries ≡ folded bank (zeros_of bank) (map (measured_of bank) (reverse entries))
+unfolding replay_back
+replay_back-folded bank [] = refl
+replay_back-folded bank (e ∷ earlier) =
+    let m : EntryFields → List ℕ = measured_of bank in
+    let from : List (List ℕ) → List ℕ = folded bank (zeros_of bank) in
+    ap (λ (old : List ℕ). extended bank old (m e)) (replay_back-folded bank earlier)
+    ∙ sym (fold_push (extended bank) (zeros_of bank) (map m (reverse earlier)) (m e))
+    ∙ ap from (sym (map-append m (reverse earlier) (e ∷ [])))
+    ∙ ap (λ (es : List EntryFields). from (map m es)) (sym (reverse-append (e ∷ []) earlier))
+
+-- a replay extends zeros by what each entry is measured as, in order
+pub replay_of-folded : (bank : Bank) (entries : List EntryFields)
+    → replay_of bank entries ≡ folded bank (zeros_of bank) (map (measured_of bank) entries)
+replay_of-folded bank entries =
+    replay_back-folded bank (reverse entries)
+    ∙ ap (λ (es : List EntryFields). folded bank (zeros_of bank) (map (measured_of bank) es)) (reverse-reverse entries)
+
+-- a replay goes on from what the first entries left
+pub replay_of-from : (bank : Bank) (first more : List EntryFields)
+    → replay_of bank (first ++ more) ≡ folded bank (replay_of bank first) (map (measured_of bank) more)
+replay_of-from bank first more =
+    let m : EntryFields → List ℕ = measured_of bank in
+    replay_of-folded bank (first ++ more)
+    ∙ ap (folded bank (zeros_of bank)) (map-append m first more)
+    ∙ fold-append (extended bank) (zeros_of bank) (map m first) (map m more)
+    ∙ ap (λ (start : List ℕ). folded bank start (map m more)) (sym (replay_of-folded bank first))

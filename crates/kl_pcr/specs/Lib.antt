@@ -1,0 +1,4 @@
+pub mod Measured
+pub mod Replay
+pub mod Values
+pub mod Statics

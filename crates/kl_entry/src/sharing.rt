@@ -7,7 +7,12 @@ use crate::file_digest::FileDigest;
 fn shared<T: Send + Sync>(_value: &T) {}
 
 /// Is proved only where each of these types is Send and Sync.
-pub(crate) fn all_shared(entry: &Entry<'_>, digest: &FileDigest, fault: &LineFault, memory: &Memory) {
+pub(crate) fn all_shared(
+    entry: &Entry<'_>,
+    digest: &FileDigest,
+    fault: &LineFault,
+    memory: &Memory,
+) {
     shared(entry);
     shared(digest);
     shared(fault);

@@ -5,3 +5,7 @@ pub mod Bits
 pub mod Masks
 pub mod Lone
 pub mod Joins
+pub mod Misfits
+pub mod FieldFaults
+pub mod QuoteFaults
+pub mod FirstFaults

@@ -19,7 +19,7 @@ use Rattle.kl_attest.proofs.Fields.{bind_ok, test_ok, ok_is, Takes, Takes-then, 
 abbrev text_of_clock : Clock → List ℕ
 text_of_clock c = clock_text c.clock c.reset c.restart c.safe
 
-record FitsClock (c : Clock) : Type 0 where
+pub record FitsClock (c : Clock) : Type 0 where
   pub clock : c.clock < 2 ^ 64
   pub reset : c.reset < 2 ^ 32
   pub restart : c.restart < 2 ^ 32
@@ -142,22 +142,22 @@ header_again rest p e =
 
 -- ---- the whole
 
-abbrev made_of : List ℕ → List ℕ → Clock → ℕ → List Selection → List ℕ → Quoted
+abbrev pub made_of : List ℕ → List ℕ → Clock → ℕ → List Selection → List ℕ → Quoted
 made_of signer extra c firmware selections digest = record { signer = signer; extra = extra; clock = c.clock; reset = c.reset; restart = c.restart; safe = c.safe; firmware = firmware; selections = selections; pcr_digest = digest }
 
-abbrev after_selections : List ℕ → List ℕ → Clock → ℕ → List Selection × Place → Result (Quoted × Place) AttestFault
+abbrev pub after_selections : List ℕ → List ℕ → Clock → ℕ → List Selection × Place → Result (Quoted × Place) AttestFault
 after_selections signer extra c firmware selections = sized_at selections.1 >>= λ digest. Ok (made_of signer extra c firmware selections.0 digest.0, digest.1)
 
-abbrev after_firmware : List ℕ → List ℕ → Clock → ℕ × Place → Result (Quoted × Place) AttestFault
+abbrev pub after_firmware : List ℕ → List ℕ → Clock → ℕ × Place → Result (Quoted × Place) AttestFault
 after_firmware signer extra c firmware = counted_at firmware.1 >>= λ selections. after_selections signer extra c firmware.0 selections
 
-abbrev after_clock : List ℕ → List ℕ → Clock × Place → Result (Quoted × Place) AttestFault
+abbrev pub after_clock : List ℕ → List ℕ → Clock × Place → Result (Quoted × Place) AttestFault
 after_clock signer extra c = number_at w64 c.1 >>= λ firmware. after_firmware signer extra c.0 firmware
 
-abbrev after_extra : List ℕ → List ℕ × Place → Result (Quoted × Place) AttestFault
+abbrev pub after_extra : List ℕ → List ℕ × Place → Result (Quoted × Place) AttestFault
 after_extra signer extra = clock_at extra.1 >>= λ c. after_clock signer extra.0 c
 
-abbrev after_signer : List ℕ × Place → Result (Quoted × Place) AttestFault
+abbrev pub after_signer : List ℕ × Place → Result (Quoted × Place) AttestFault
 after_signer signer = sized_at signer.1 >>= λ extra. after_extra signer.0 extra
 
 quoted_takes : (p : Place) (x : Quoted × Place) → IsBytes p.rest → quoted_at p ≡ Ok x → Takes p (text_of x.0) x.1 × IsQuoted x.0

@@ -1,4 +1,5 @@
--- Reading from left to right, with the first fault that is met.
+-- The inner readers, which contracts of private functions cite: reading from left to right, with the first fault that
+-- is met. What `read_attest` promises is said by the grammar and by FirstFault; proofs tie the two.
 use Rattle.std.specs.Prelude.{◌≡◌, ℕ, zero, suc, ◌+◌, Bool, true, false, List, [], ◌∷◌, length, take, drop, Result, Ok, Err, nat_lt, ◌==◌, if◌then◌else◌}
 use Rattle.std.specs.Int.{Width, w8, w16, w32, w64, byte_len, from_be_bytes}
 use Rattle.kl_attest.specs.declared.fault.AttestFault.{AttestFault}

@@ -1,7 +1,8 @@
 //! Reading a quote.
 
-ghost use Rattle.std.specs.Prelude.{◌≡◌, IfOk, IsOkAnd};
+ghost use Rattle.std.specs.Prelude.{◌≡◌, Err, IfOk, IfErr, IsOkAnd};
 ghost use Rattle.kl_attest.specs.Grammar.{Quoted, Spells};
+ghost use Rattle.kl_attest.specs.FirstFault.{IsFirstFault};
 ghost use Rattle.kl_attest.specs.Faults.{Gives, quoted_at, all_of};
 ghost use Rattle.kl_attest.specs.Cursors.{place_of};
 ghost use Rattle.kl_attest.specs.Views.{view};
@@ -19,8 +20,10 @@ pub fn read_attest(bytes: &[u8]) -> Result<Attest<'_>, AttestFault>
     ensures found { IfOk result (λ a. Spells bytes.now (view a)) }
     // What is spelled so is read.
     ensures only { (q : Quoted) → Spells bytes.now q → IsOkAnd result (λ a. view a ≡ q) }
-    // Which fault it is.
-    ensures exact { Gives view result (all_of bytes.now) }
+    // What is answered is the first field that does not fit, or bytes behind the whole.
+    ensures fault { IfErr result (IsFirstFault bytes.now) }
+    // What does not fit first is answered.
+    ensures alone { (f : AttestFault) → IsFirstFault bytes.now f → result ≡ Err f }
 {
     read_whole(bytes)
 }

@@ -75,6 +75,13 @@ impl Statics {
     {
         &self.statics
     }
+
+    /// The PCRs, as a `Vec`.
+    pub fn into_vec(self) -> Vec<Static>
+        ensures { result.items ≡ self }
+    {
+        self.statics
+    }
 }
 
 /// Whether each names a PCR of the mask that is neither 10 nor 16, each names another, and each

@@ -1,0 +1,4 @@
+pub mod QuoteFacts
+pub mod ListFacts
+pub mod WalkFacts
+pub mod GenuineFacts

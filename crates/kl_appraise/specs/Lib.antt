@@ -1,0 +1,9 @@
+pub mod Terms
+pub mod Kept
+pub mod Evidence
+pub mod QuoteRules
+pub mod ListRules
+pub mod Outcome
+pub mod Genuine
+pub mod Checked
+pub mod Listed

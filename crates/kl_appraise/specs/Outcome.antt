@@ -1,0 +1,35 @@
+-- The outcome of an appraisal: that of the first rule that applies.
+use Rattle.std.specs.Prelude.{◌≡◌, ℕ, Bool, Option, None, Some, List, []}
+use Rattle.kl_attest.specs.Grammar.{Quoted}
+use Rattle.kl_quote.specs.declared.evidence.Evidence.{Evidence}
+use Rattle.kl_states.specs.declared.verdict.Verdict.{Verdict}
+use Rattle.kl_states.specs.declared.verdict.Verdict.TheVariants.{Pass, Failed, Invalid}
+use Rattle.kl_appraise.specs.declared.judged.Boot.{Boot}
+use Rattle.kl_appraise.specs.Terms.{TermsFields}
+use Rattle.kl_appraise.specs.Evidence.{Attests}
+use Rattle.kl_appraise.specs.QuoteRules.{◌otherwise◌}
+use Rattle.kl_appraise.specs.ListRules.{Case, Outcome, Judged, boot_of, ByQuote, ListRules}
+
+-- rules 1 to 17
+abbrev pub IsOutcome : Case → Outcome → Type 0
+IsOutcome c = ByQuote c otherwise ListRules c
+
+-- the outcome is this verdict
+abbrev pub IsVerdict : Case → Verdict → Type 0
+IsVerdict c v = IsOutcome c (Judged v)
+
+-- a poll of the whole list: nothing was accepted before it
+abbrev pub whole_case : TermsFields → List ℕ → Evidence → Bool → Case
+whole_case terms nonce evidence signed = record { terms = terms; nonce = nonce; from = 0; prefix = []; boot = record { reset = 0; restart = 0 }; evidence = evidence; signed = signed }
+
+-- the boot that goes with a verdict: that which the quote signs with a Pass, and none with another
+abbrev pub HasBoot : List ℕ → Verdict → Option Boot → Type 0
+HasBoot quote (Pass _) boot = (t : Quoted) × Attests quote t × (boot ≡ Some (boot_of t))
+HasBoot quote (Failed _) boot = boot ≡ None
+HasBoot quote (Invalid _) boot = boot ≡ None
+
+-- the boot, at a Pass alone
+abbrev pub boot_with : Verdict → Boot → Option Boot
+boot_with (Pass _) boot = Some boot
+boot_with (Failed _) boot = None
+boot_with (Invalid _) boot = None

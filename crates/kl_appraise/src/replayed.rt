@@ -1,0 +1,73 @@
+//! The replay of a measurement list, up to the quoted value of PCR 10.
+
+ghost use Rattle.std.specs.Prelude.{◌≡◌, ◌+◌, ◌≤◌, length, take, IfSome, IfNone};
+ghost use Rattle.kl_entry.specs.Entries.{data_of};
+ghost use Rattle.kl_policy.specs.Policy.{IsFirstBad};
+ghost use Rattle.kl_appraise.specs.Listed.{IsShortest, NoneReplays, with_next};
+
+use kl_bank::{Bank, Digest};
+use kl_entry::{Entry, EntryData, consistent_with};
+use kl_pcr::{Steps, measured_with};
+use kl_policy::{Policy, Why};
+use std::sync::ledger::Ledger;
+
+/// The beginning of a measurement list that a quote covers.
+#[derive(Clone, Copy)]
+pub struct Cut {
+    /// How many entries it has.
+    pub entries: usize,
+    /// The first of them that the policy does not allow, if there is one: its place from 0, and why.
+    pub bad: Option<(usize, Why)>,
+}
+
+/// The shortest beginning of the list that is not empty and replays to the quoted value, if one does. No
+/// entry behind it is hashed.
+pub fn find_cut<L: Ledger>(
+    bank: Bank,
+    policy: &Policy,
+    entries: &[Entry<'_>],
+    quoted: &Digest,
+    steps: &mut Steps<L>,
+) -> Option<Cut>
+    ensures found { IfSome result (λ cut. IsShortest bank entries.now quoted.now cut.entries) }
+    ensures bad { IfSome result (λ cut. IsFirstBad policy.now (take cut.entries entries.now) cut.bad) }
+    ensures none { IfNone result (NoneReplays bank entries.now quoted.now (length entries.now)) }
+    ensures cost { steps.new ≤ steps.old + length entries.now }
+{
+    let mut held = bank.zeros();
+    let mut bad = None;
+    let mut laid_out = EntryData::new();
+    for (i, entry) in entries.iter().enumerate() {
+        laid_out.lay_out(entry);
+        held = bank.extend(&held, &measured_with(bank, entry, &laid_out, steps));
+        bad = first_bad(bad, policy, i, entry, &laid_out);
+        if held.as_slice() == quoted.as_slice() {
+            return Some(Cut {
+                entries: i + 1,
+                bad,
+            });
+        }
+    }
+    None
+}
+
+/// The first entry that the policy does not allow, once this entry is looked at too. It is not looked
+/// at where an earlier one is not allowed.
+fn first_bad(
+    bad: Option<(usize, Why)>,
+    policy: &Policy,
+    place: usize,
+    entry: &Entry<'_>,
+    laid_out: &EntryData,
+) -> Option<(usize, Why)>
+    requires { laid_out.now ≡ data_of entry.now }
+    ensures { result ≡ with_next policy.now bad place entry.now }
+{
+    match bad {
+        Some(found) => Some(found),
+        None => match policy.why(entry, consistent_with(entry, laid_out)) {
+            Some(why) => Some((place, why)),
+            None => None,
+        },
+    }
+}

@@ -1,0 +1,20 @@
+//! Terms and what an appraisal finds may go from one thread to another and be shared by several.
+
+use crate::fault::{AppraiseError, TermsFault};
+use crate::judged::Judged;
+use crate::terms::Terms;
+
+fn shared<T: Sync + Send>(_value: &T) {}
+
+/// Is proved only where each of these types is Send and Sync.
+pub(crate) fn all_shared(
+    terms: &Terms,
+    judged: &Judged,
+    fault: &TermsFault,
+    error: &AppraiseError,
+) {
+    shared(terms);
+    shared(judged);
+    shared(fault);
+    shared(error);
+}

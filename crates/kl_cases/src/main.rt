@@ -1,0 +1,122 @@
+//! Runs the worked examples: scripts on standard input, each behind a line `== <fault> <name>`.
+//!
+//! For each case it prints `== <name>`, what `run` wrote, and `status <n>`. The fault is `-`, or the number of the call of
+//! the key object that fails.
+#![tactic(auto)]
+
+ghost use Rattle.std.specs.Prelude.{◌≡◌, ◌≤◌};
+
+use anyhow::{Result, bail};
+use kl_console::run;
+use kl_io::{MemSink, MemSource, Sink, Source};
+use kl_keys::{Keys, MacKeys};
+use kl_pcr::Steps;
+use std::alloc::{AllocError, Global};
+use std::io::{BufRead, BufReader};
+use std::marker::Brand;
+use std::sync::ledger::{Blank, Ledger};
+
+/// More bytes than any case prints.
+const ROOM: usize = 4096;
+
+/// A script, and which call of the key object fails.
+#[derive(Drop)]
+struct Case {
+    name: String,
+    fault: Option<u64>,
+    script: String,
+}
+
+impl Case {
+    /// The case of a first line, without its mark. Its script is empty.
+    fn begin(alloc: Global, head: &str) -> Result<Case, AllocError> {
+        let (fault, name) = head.split_once(' ').unwrap_or(("-", head));
+        Ok(Case {
+            name: String::from_str(alloc, name)?,
+            fault: fault.parse::<u64>().ok(),
+            script: String::new(alloc),
+        })
+    }
+
+    /// Adds a line to the script.
+    fn push(&mut self, line: &str) -> Result<(), AllocError> {
+        self.script.push_str(line)?;
+        self.script.push_str("\n")
+    }
+}
+
+fn main(rt: HostRuntime) -> Result<()> {
+    let alloc = rt.alloc();
+    let mut case: Option<Case> = None;
+    for line in BufReader::new(alloc, rt.reader())?.lines(alloc) {
+        let line = line?;
+        match line.as_str().strip_prefix("== ") {
+            Some(head) => {
+                let next = Case::begin(alloc, head)?;
+                if let Some(done) = case.replace(next) {
+                    play(&rt, done)?;
+                }
+            }
+            None => {
+                if let Some(case) = &mut case {
+                    case.push(line.as_str())?;
+                }
+            }
+        }
+    }
+    match case {
+        Some(done) => play(&rt, done),
+        None => Ok(()),
+    }
+}
+
+/// Runs a case, and prints what it gave.
+fn play<R: Print + AllocGlobal>(rt: &R, case: Case) -> Result<()> {
+    let alloc = rt.alloc();
+    let Ok(mut keys) = keys_of(alloc, case.fault) else {
+        bail!("out of memory");
+    };
+    let mut script = MemSource::new(alloc, case.script.into_bytes(), &[])?;
+    let mut out = MemSink::new(alloc, ROOM, &[])?;
+    let words = vec![in alloc; String::from_str(alloc, "run")?]?;
+    let status = run_from::<_, _, _, Brand>(
+        alloc,
+        &words,
+        &mut script,
+        &mut out,
+        &mut keys,
+        Blank::new(1),
+    );
+    let name = case.name;
+    let Ok(printed) = std::str::from_utf8(out.held()) else {
+        bail!("{name}: what was printed is no text");
+    };
+    println!(rt; "== {name}")?;
+    print!(rt; "{printed}")?;
+    println!(rt; "status {status}")?;
+    Ok(())
+}
+
+/// Keys whose call of this number fails.
+fn keys_of(alloc: Global, fault: Option<u64>) -> Result<MacKeys, kl_keys::Memory> {
+    match fault {
+        Some(number) => MacKeys::new(alloc, &[number]),
+        None => MacKeys::new(alloc, &[]),
+    }
+}
+
+/// Runs a script, with a counter of steps of its own.
+fn run_from<S: Source, K: Sink, Y: Keys, L: Ledger>(
+    alloc: Global,
+    words: &[String],
+    script: &mut S,
+    out: &mut K,
+    keys: &mut Y,
+    blank: Blank,
+) -> u8
+    requires name { blank.name ≡ L.name }
+    requires parts { blank.parts ≡ L.parts }
+    requires some { 1 ≤ blank.parts }
+{
+    run(alloc, words, script, out, keys, &mut Steps::<L>::of(blank))
+}

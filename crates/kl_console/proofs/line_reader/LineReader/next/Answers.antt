@@ -1,0 +1,10 @@
+use Rattle.std.proofs.Common.{◌≡◌, ◌++◌, List, ℕ, ap, sym}
+use Rattle.std.specs.Io.KnownBytes.{Consumes}
+use Rattle.kl_console.specs.Lines.{ReadsLine}
+use Rattle.kl_console.proofs.Turns.{reads_primed}
+use Rattle.kl_console.proofs.line_reader.LineReader.next.Goals as goal
+
+pub returns-clause-reads : goal.returns-clause-reads
+returns-clause-reads g c =
+    let primed = rw (ap (λ r. r.ahead) c.self.view_is) at c.prime.ensures.bytes in
+    reads_primed _ _ _ c.args.self.now c.prime.new.self _ _ primed c.gather.ensures.reads

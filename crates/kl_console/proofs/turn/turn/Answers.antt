@@ -1,0 +1,18 @@
+use Rattle.std.proofs.Common.{refl}
+use Rattle.kl_console.proofs.Printing.{turn_end, turn_line, turn_long}
+use Rattle.kl_console.proofs.turn.turn.Goals as goal
+
+pub returns-in-Ok-Line-clause-turns : goal.returns-in-Ok-Line-clause-turns
+returns-in-Ok-Line-clause-turns g c =
+    let reads = rw c.in-Ok-Line.field-0-is at c.in-Ok-Line.ensures.reads in
+    turn_line _ _ _ _ _ _ _ c.args.reader.now c.next.new.self _ _ _ c.answer.result reads c.answer.ensures.answered c.answer.ensures.cost
+
+pub returns-in-Ok-End-clause-turns : goal.returns-in-Ok-End-clause-turns
+returns-in-Ok-End-clause-turns g c =
+    let reads = rw c.in-Ok-End.field-0-is at c.in-Ok-End.ensures.reads in
+    turn_end _ _ _ _ _ _ _ c.args.reader.now c.next.new.self c.next.new.self.line c.next.new.self.ahead _ c.finish.result refl reads c.finish.ensures.done c.finish.ensures.bad
+
+pub returns-in-Ok-TooLong-clause-turns : goal.returns-in-Ok-TooLong-clause-turns
+returns-in-Ok-TooLong-clause-turns g c =
+    let reads = rw c.in-Ok-TooLong.field-0-is at c.in-Ok-TooLong.ensures.reads in
+    turn_long _ _ _ _ _ _ _ c.args.reader.now c.next.new.self c.next.new.self.ahead _ c.complain.result reads c.complain.ensures.written

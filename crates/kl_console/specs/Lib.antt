@@ -1,0 +1,9 @@
+pub mod Lines
+pub mod Texts
+pub mod Terms
+pub mod Session
+pub mod Stages
+pub mod Script
+pub mod Run
+pub mod Turns
+pub mod Faults

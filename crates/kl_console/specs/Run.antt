@@ -1,0 +1,52 @@
+-- What a run reads and writes, by how it ends.
+use Rattle.std.specs.Prelude.{◌≡◌, ◌⊎◌, ℕ, ◌+◌, ◌≤◌, List, [], ◌∷◌, ◌++◌, length, Option}
+use Rattle.std.specs.Io.KnownBytes.{Appends, Consumes, IsAtEnd}
+use Rattle.kl_entry.specs.Lines.{lines_of}
+use Rattle.kl_script.specs.Commands.{ReplyFields, reply, Spells}
+use Rattle.kl_console.specs.Lines.{IsLine, ended}
+use Rattle.kl_console.specs.Texts.{fault_text}
+use Rattle.kl_console.specs.Session.{KeyLog}
+use Rattle.kl_console.specs.Script.{Session, IsBad, next_number, printed}
+
+-- What was taken from a source, which had the one and has the other left, and what was put into a sink, which held the
+-- one and holds the other, is so. Where an object does not tell, nothing is said of its bytes.
+abbrev pub Ran : Option (List ℕ) → Option (List ℕ) → Option (List ℕ) → Option (List ℕ) → (List ℕ → List ℕ → Type 0) → Type 0
+Ran left left' held held' IsSo =
+    (consumed : List ℕ) × (written : List ℕ) × Consumes left left' consumed × Appends held held' written × IsSo consumed written
+
+-- all of the script was read, each line was the command of its place, and all texts were written
+abbrev pub IsDone : KeyLog → Option (List ℕ) → List ℕ → List ℕ → Type 0
+IsDone keys left consumed written = (s : Session keys) × (consumed ≡ ended s.lines) × IsAtEnd left × (written ≡ printed s)
+
+-- the texts of the lines before the first bad one were written, and which that is
+abbrev pub IsFaulty : KeyLog → Option (List ℕ) → List ℕ → List ℕ → Type 0
+IsFaulty keys left consumed written =
+    (s : Session keys) × (rest : List ℕ) × (consumed ≡ ended s.lines ++ rest) × IsBad left s.stage rest
+    × (written ≡ printed s ++ fault_text (next_number s))
+
+-- the script could be read no further than this, in the midst of a line or behind one; the texts of all lines were written
+abbrev pub IsBroken : KeyLog → List ℕ → List ℕ → Type 0
+IsBroken keys consumed written =
+    (s : Session keys) × (part : List ℕ) × (consumed ≡ ended s.lines ++ part) × IsLine part × (written ≡ printed s)
+
+-- the bytes that were read make a run print this
+abbrev pub Prints : KeyLog → Option (List ℕ) → List ℕ → List ℕ → Type 0
+Prints keys left consumed output =
+    (s : Session keys) × (rest : List ℕ) × (consumed ≡ ended s.lines ++ rest)
+    × ((output ≡ printed s) ⊎ (IsBad left s.stage rest × (output ≡ printed s ++ fault_text (next_number s))))
+
+-- what was written is the beginning of what is to be printed
+abbrev pub IsCutOff : KeyLog → Option (List ℕ) → List ℕ → List ℕ → Type 0
+IsCutOff keys left consumed written =
+    (output : List ℕ) × (lost : List ℕ) × Prints keys left consumed output × (output ≡ written ++ lost)
+
+-- no step was taken, or the line of a reply was read and at most one step was taken for each entry of its list
+abbrev pub Costs : ℕ → ℕ → List ℕ → Type 0
+Costs before after consumed =
+    (after ≤ before)
+    ⊎ ((lines : List (List ℕ)) × (line : List ℕ) × (more : List ℕ) × (r : ReplyFields)
+    × (consumed ≡ ended lines ++ (line ++ 10 ∷ more)) × Spells line (reply r) × (after ≤ before + length (lines_of r.list)))
+
+-- the numbers with which a run ends
+abbrev pub IsStatus : ℕ → Type 0
+IsStatus n = (n ≡ 0) ⊎ ((n ≡ 2) ⊎ ((n ≡ 3) ⊎ ((n ≡ 4) ⊎ ((n ≡ 5) ⊎ (n ≡ 70)))))

@@ -1,0 +1,208 @@
+//! Lines from a source, one at a time.
+
+ghost use Rattle.std.specs.Prelude.{◌≡◌, ◌++◌, ◌∷◌, [], List, ℕ, Err, ◌<◌, ◌≤◌, true, false, length, IfOk, OnErr, IfSome, IfNone};
+ghost use Rattle.std.specs.Io.KnownBytes.{Consumes, IsAtEnd};
+ghost use Rattle.kl_io.specs.Causes.{HasCause, Rose};
+ghost use Rattle.kl_console.specs.Lines.{HasNoNewline, IsNewlineAt, ReadsLine, held_bytes};
+
+use kl_io::Source;
+use memchr::memchr;
+use std::alloc::{AllocError, Global};
+use std::marker::Model;
+
+/// The most bytes that a line may have, its newline not counted.
+pub const LINE_LIMIT: usize = 16_777_216;
+
+/// How many bytes one turn asks the source for.
+const TURN: usize = 65_536;
+
+/// What was found of the next line.
+#[derive(Clone, Copy, Debug, PartialEq, Eq)]
+pub enum Found {
+    /// A whole line, which was ended by its newline.
+    Line,
+    /// The end of the input, after bytes without a newline, which may be none.
+    End,
+    /// More bytes without a newline than a line may have.
+    TooLong,
+}
+
+/// Why a line could not be read.
+#[derive(Clone, Copy, Debug, PartialEq, Eq)]
+pub enum ReadError {
+    /// The source met a fault.
+    Failed,
+    /// Memory ran out.
+    Memory,
+}
+
+impl From<AllocError> for ReadError {
+    ghost use Rattle.std.specs.Prelude.{◌≡◌};
+    ghost use Rattle.kl_console.specs.declared.line_reader.ReadError.TheVariants.{Memory};
+
+    ghost from_gives = { λ _ e. e ≡ Memory };
+
+    fn from(_e: AllocError) -> ReadError {
+        ReadError::Memory
+    }
+}
+
+/// Where the first newline stands.
+fn newline_at(bytes: &[u8]) -> Option<usize>
+    ensures found { IfSome result (IsNewlineAt bytes.now) }
+    ensures none { IfNone result (HasNoNewline bytes.now) }
+{
+    memchr(b'\n', bytes)
+}
+
+/// Reads lines from a source, in turns of bounded size. The line that was read last stays until the next is read.
+#[derive(Drop)]
+pub struct LineReader {
+    line: Vec<u8>,
+    chunk: Vec<u8>,
+    start: usize,
+    end: usize,
+}
+
+impl Model for LineReader {
+    ghost use Rattle.std.specs.Prelude.{◌≡◌, ◌≤◌, ◌-◌, take, drop, length, vec_len};
+    ghost use Rattle.kl_console.specs.Lines.{Reading};
+
+    ghost Value = { Reading };
+
+    ghost view = { λ r. record { line = r.line.items; ahead = take (r.end - r.start) (drop r.start r.chunk.items) } };
+
+    ghost invariant = { λ r. (r.start ≤ r.end) × (r.end ≤ vec_len r.chunk) × (vec_len r.chunk ≡ 65536) };
+}
+
+impl LineReader {
+    /// A reader that has read nothing.
+    ///
+    /// # Errors
+    /// `AllocError` where there is no memory for one turn.
+    pub fn new(alloc: Global) -> Result<LineReader, AllocError>
+        ensures line { IfOk result (λ r. r.line ≡ []) }
+        ensures ahead { IfOk result (λ r. r.ahead ≡ []) }
+    {
+        Ok(LineReader {
+            line: Vec::new(alloc),
+            chunk: vec![in alloc; 0; TURN]?,
+            start: 0,
+            end: 0,
+        })
+    }
+
+    /// The line, without its newline.
+    pub fn line(&self) -> &[u8]
+        ensures value { result.now ≡ self.now.line }
+    {
+        self.line.as_slice()
+    }
+
+    /// Lets the line go, and the memory that it took.
+    pub fn let_go(&mut self, alloc: Global)
+        ensures { self.new ≡ record { line = []; ahead = self.old.ahead } }
+    {
+        self.line = Vec::new(alloc);
+    }
+
+    /// Reads the next line. It stays until the next one is read.
+    ///
+    /// # Errors
+    /// `Failed` where the source met a fault in this call, `Memory` where there is none for the line.
+    pub fn next<S: Source>(&mut self, source: &mut S) -> Result<Found, ReadError>
+        ensures reads { ReadsLine (S.left source.old) (S.left source.new) self.old self.new result }
+        ensures count { S.fault_count source.old ≤ S.fault_count source.new }
+        ensures failed { result ≡ Err ReadError.Failed → Rose (S.fault_count source.old) (S.fault_count source.new) }
+        ensures place { S.place source.new ≡ S.place source.old }
+    {
+        self.line.clear();
+        if !self.prime(source)? {
+            return Ok(Found::End);
+        }
+        self.gather(source)
+    }
+
+    /// Sees that bytes are ahead, unless the source is at its end. The answer is whether there are any.
+    fn prime<S: Source>(&mut self, source: &mut S) -> Result<bool, ReadError>
+        ensures bytes { (consumed : List ℕ) × Consumes (S.left source.old) (S.left source.new) consumed × (self.new.ahead ≡ self.old.ahead ++ consumed) }
+        ensures line { self.new.line ≡ self.old.line }
+        ensures some { IfOk result (λ some. some ≡ true → 0 < length self.new.ahead) }
+        ensures end { IfOk result (λ some. some ≡ false → (self.new.ahead ≡ []) × IsAtEnd (S.left source.new)) }
+        ensures err { OnErr result (self.new.ahead ≡ []) }
+        ensures cause { HasCause (S.fault_count source.old) (S.fault_count source.new) result }
+        ensures place { S.place source.new ≡ S.place source.old }
+    {
+        if self.start < self.end {
+            return Ok(true);
+        }
+        self.fill(source)
+    }
+
+    /// Gathers a line from bytes ahead and from the source.
+    fn gather<S: Source>(&mut self, source: &mut S) -> Result<Found, ReadError>
+        requires ahead { 0 < length self.old.ahead }
+        requires line { self.old.line ≡ [] }
+        ensures reads { ReadsLine (S.left source.old) (S.left source.new) self.old self.new result }
+        ensures count { S.fault_count source.old ≤ S.fault_count source.new }
+        ensures failed { result ≡ Err ReadError.Failed → Rose (S.fault_count source.old) (S.fault_count source.new) }
+        ensures place { S.place source.new ≡ S.place source.old }
+    {
+        'turns: loop {
+            let whole = self.take_piece()?;
+            if self.line.len() > LINE_LIMIT {
+                return Ok(Found::TooLong);
+            }
+            if whole {
+                return Ok(Found::Line);
+            }
+            if !self.fill(source)? {
+                return Ok(Found::End);
+            }
+        }
+    }
+
+    /// Appends what the chunk has of the line, up to its newline. The answer is whether the newline was met.
+    fn take_piece(&mut self) -> Result<bool, AllocError>
+        ensures bytes { IfOk result (λ whole. held_bytes whole self.new ≡ self.old.line ++ self.old.ahead) }
+        ensures no_newline { HasNoNewline self.old.line → HasNoNewline self.new.line }
+        ensures rest { IfOk result (λ whole. whole ≡ false → self.new.ahead ≡ []) }
+        ensures err { OnErr result (self.new ≡ self.old) }
+    {
+        let ahead = &self.chunk[self.start..self.end];
+        match newline_at(ahead) {
+            Some(at) => {
+                self.line.extend_from_slice(&ahead[..at])?;
+                self.start += at + 1;
+                Ok(true)
+            }
+            None => {
+                self.line.extend_from_slice(ahead)?;
+                self.start = self.end;
+                Ok(false)
+            }
+        }
+    }
+
+    /// Asks the source for one turn of bytes, where none are ahead. The answer is whether there were any.
+    fn fill<S: Source>(&mut self, source: &mut S) -> Result<bool, ReadError>
+        requires { self.old.ahead ≡ [] }
+        ensures bytes { Consumes (S.left source.old) (S.left source.new) self.new.ahead }
+        ensures line { self.new.line ≡ self.old.line }
+        ensures some { IfOk result (λ some. some ≡ true → 0 < length self.new.ahead) }
+        ensures end { IfOk result (λ some. some ≡ false → (self.new.ahead ≡ []) × IsAtEnd (S.left source.new)) }
+        ensures err { OnErr result (self.new.ahead ≡ []) }
+        ensures failed { HasCause (S.fault_count source.old) (S.fault_count source.new) result }
+        ensures place { S.place source.new ≡ S.place source.old }
+    {
+        self.start = 0;
+        self.end = 0;
+        match source.read(self.chunk.as_mut_slice()) {
+            Ok(count) => {
+                self.end = count;
+                Ok(count > 0)
+            }
+            Err(_) => Err(ReadError::Failed),
+        }
+    }
+}

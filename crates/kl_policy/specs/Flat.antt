@@ -1,0 +1,69 @@
+-- The flat allowlist: a line is a digest in hexadecimal digits, two spaces and a path, as `sha256sum` writes them.
+use Rattle.std.specs.Prelude.{◌≡◌, ℕ, ◌<◌, ◌≤◌, ◌++◌, ◌⊎◌, List, [], ◌∷◌, length, filter, Bool, true, false, All, codes, Ok, ⊤}
+use Rattle.std.specs.FinMap as finite_map
+use Rattle.std.specs.List.{AllZip}
+use Rattle.hex.specs.Hex.{decode_of}
+use Rattle.kl_entry.specs.Lines.{lines_of}
+use Rattle.kl_policy.specs.Digests.{DigestMap, Collects}
+use Rattle.kl_policy.specs.declared.fault.Limit.TheVariants.{Paths, Patterns, PatternBytes}
+use Rattle.kl_policy.specs.declared.fault.PolicyFault.{PolicyFault}
+use Rattle.kl_policy.specs.declared.fault.PolicyFault.TheVariants.{Line, Limit as Over, Memory}
+
+-- the line gives this digest and this path: 2 to 128 hexadecimal digits in either case, an even
+-- number of them, then two spaces, then at least one byte
+pub record FlatLine (line digest path : List ℕ) : Type 0 where
+  pub digits : List ℕ
+  pub parts : line ≡ digits ++ codes "  " ++ path
+  pub decoded : decode_of digits ≡ Ok digest
+  pub some : 2 ≤ length digits
+  pub most : length digits ≤ 128
+  pub named : 1 ≤ length path
+
+-- the line gives this pair of a path and a digest
+abbrev pub GivesPair : List ℕ → List ℕ × List ℕ → Type 0
+GivesPair line pair = FlatLine line pair.1 pair.0
+
+-- whether a line has a byte
+abbrev pub is_written : List ℕ → Bool
+is_written [] = false
+is_written (b ∷ bytes) = true
+
+-- the lines that are not empty
+abbrev pub written : List (List ℕ) → List (List ℕ)
+written lines = filter is_written lines
+
+-- the lines give these pairs of a path and a digest, in order; an empty line gives none
+abbrev pub AreListed : List (List ℕ) → List (List ℕ × List ℕ) → Type 0
+AreListed lines pairs = AllZip GivesPair (written lines) pairs
+
+abbrev pub IsListed : List ℕ → List (List ℕ × List ℕ) → Type 0
+IsListed text pairs = AreListed (lines_of text) pairs
+
+-- the digests that these lines list, by their paths: those of a repeated path are added up
+abbrev pub LinesCollect : List (List ℕ) → DigestMap → Type 0
+LinesCollect lines digests = (pairs : List (List ℕ × List ℕ)) × AreListed lines pairs × Collects pairs digests
+
+abbrev pub ListsDigests : List ℕ → DigestMap → Type 0
+ListsDigests text digests = LinesCollect (lines_of text) digests
+
+-- a line that a flat policy may have
+abbrev pub IsGoodLine : List ℕ → Type 0
+IsGoodLine line = (line ≡ []) ⊎ ((digest : List ℕ) × (path : List ℕ) × FlatLine line digest path)
+
+-- the line at this place, from 0 and counting empty ones, is the first that is not good
+pub record IsFirstBadLine (lines : List (List ℕ)) (place : ℕ) : Type 0 where
+  pub before : List (List ℕ)
+  pub line : List ℕ
+  pub after : List (List ℕ)
+  pub cut : lines ≡ before ++ line ∷ after
+  pub counted : length before ≡ place
+  pub good : All IsGoodLine before
+  pub bad : ¬ (IsGoodLine line)
+
+-- the text is no flat policy: its first bad line, or too many distinct paths where all lines are good
+abbrev pub IsFlatFault : List ℕ → PolicyFault → Type 0
+IsFlatFault text (Line place) = IsFirstBadLine (lines_of text) place
+IsFlatFault text (Over Paths) = (digests : DigestMap) × ListsDigests text digests × (262144 < finite_map.len digests)
+IsFlatFault text (Over Patterns) = ⊥
+IsFlatFault text (Over PatternBytes) = ⊥
+IsFlatFault text Memory = ⊤

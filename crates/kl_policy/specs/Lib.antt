@@ -1,0 +1,5 @@
+pub mod Digests
+pub mod Flat
+pub mod Policy
+pub mod PolicyFields
+pub mod Table

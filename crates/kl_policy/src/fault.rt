@@ -1,0 +1,99 @@
+//! Why a policy could not be read.
+
+use std::alloc::{AllocError, AllocFailed};
+use std::error::Error;
+use std::fmt;
+
+/// A bound on the size of a policy.
+#[derive(Clone, Copy, Debug, PartialEq, Eq)]
+pub enum Limit {
+    /// At most 262,144 distinct paths.
+    Paths,
+    /// At most 32 exclude patterns.
+    Patterns,
+    /// At most 512 bytes in a pattern.
+    PatternBytes,
+}
+
+impl fmt::Display for Limit {
+    fn fmt<W: fmt::Write>(&self, f: &mut fmt::Formatter<W>) -> fmt::Result {
+        f.write_str(match self {
+            Limit::Paths => "more than 262144 paths",
+            Limit::Patterns => "more than 32 patterns",
+            Limit::PatternBytes => "a pattern of more than 512 bytes",
+        })
+    }
+}
+
+/// What is wrong with a policy's text.
+#[derive(Clone, Copy, Debug, PartialEq, Eq)]
+pub enum PolicyFault {
+    /// The first line of a flat policy that is neither empty nor a digest, two spaces and a path.
+    /// Lines are counted from 0, empty ones too.
+    Line(usize),
+    /// The policy passes a bound.
+    Limit(Limit),
+    /// There was no memory left.
+    Memory,
+}
+
+impl fmt::Display for PolicyFault {
+    fn fmt<W: fmt::Write>(&self, f: &mut fmt::Formatter<W>) -> fmt::Result {
+        match self {
+            PolicyFault::Line(number) => write!(
+                f,
+                "line {number} is no digest, two spaces and a path"
+            ),
+            PolicyFault::Limit(limit) => write!(f, "the policy has {limit}"),
+            PolicyFault::Memory => write!(f, "out of memory"),
+        }
+    }
+}
+
+impl Error for PolicyFault {}
+
+/// There was no memory left.
+#[derive(Clone, Copy, Debug, PartialEq, Eq)]
+pub struct Memory;
+
+impl From<AllocError> for Memory {
+    fn from(_e: AllocError) -> Memory {
+        Memory
+    }
+}
+
+impl<T: Drop> From<AllocFailed<T>> for Memory {
+    fn from(_e: AllocFailed<T>) -> Memory {
+        Memory
+    }
+}
+
+impl From<Memory> for PolicyFault {
+    ghost use Rattle.std.specs.Prelude.{◌≡◌};
+    ghost use Rattle.kl_policy.specs.declared.fault.PolicyFault.TheVariants.{Memory as no_memory};
+
+    ghost from_gives = { λ _ fault. fault ≡ no_memory };
+
+    fn from(_e: Memory) -> PolicyFault {
+        PolicyFault::Memory
+    }
+}
+
+impl From<AllocError> for PolicyFault {
+    ghost use Rattle.std.specs.Prelude.{◌≡◌};
+    ghost use Rattle.kl_policy.specs.declared.fault.PolicyFault.TheVariants.{Memory as no_memory};
+
+    ghost from_gives = { λ _ fault. fault ≡ no_memory };
+
+    fn from(_e: AllocError) -> PolicyFault {
+        PolicyFault::Memory
+    }
+}
+
+impl fmt::Display for Memory {
+    fn fmt<W: fmt::Write>(&self, f: &mut fmt::Formatter<W>) -> fmt::Result {
+        write!(f, "out of memory")
+    }
+}
+
+impl Error for Memory {}

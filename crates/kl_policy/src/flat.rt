@@ -1,0 +1,60 @@
+//! Flat policies.
+
+ghost use Rattle.std.specs.Prelude.{◌≡◌, ◌≤◌, false, IfOk, IfErr};
+ghost use Rattle.std.specs.FinMap as finite_map;
+ghost use Rattle.kl_policy.specs.Flat.{ListsDigests, IsFlatFault};
+
+use crate::digests::DigestMap;
+use crate::fault::{Limit, PolicyFault};
+use crate::kind::PolicyKind;
+use crate::line::read_line;
+use crate::policy::Policy;
+use kl_entry::lines;
+use std::alloc::Global;
+
+/// The most distinct paths that a policy may have.
+const MOST_PATHS: usize = 262_144;
+
+/// Reads a flat policy: an allowlist as `sha256sum` writes it.
+///
+/// A line is 2 to 128 hexadecimal digits in either case, an even number of them, then two spaces, then
+/// a path. Empty lines are skipped. The digests of a repeated path are added up. Violations fail.
+///
+/// # Errors
+///
+/// `Line` names the first line that is not so. `Limit(Paths)` comes where all lines are good, and
+/// there are more than 262,144 distinct paths. `Memory` comes where memory runs out.
+pub fn read_flat(alloc: Global, text: &str) -> Result<Policy, PolicyFault>
+    ensures source { IfOk result (λ policy. policy.source ≡ text.now) }
+    ensures kind { IfOk result (λ policy. policy.kind ≡ PolicyKind.Flat) }
+    ensures digests { IfOk result (λ policy. ListsDigests text.now policy.digests) }
+    ensures limit { IfOk result (λ policy. finite_map.len policy.digests ≤ MOST_PATHS) }
+    ensures violations { IfOk result (λ policy. policy.passes_violations ≡ false) }
+    ensures fault { IfErr result (λ fault. IsFlatFault text.now fault) }
+{
+    let digests = collect(alloc, text)?;
+    if digests.len() > MOST_PATHS {
+        return Err(PolicyFault::Limit(Limit::Paths));
+    }
+    let source = String::from_str(alloc, text)?;
+    Ok(Policy::of(source, PolicyKind::Flat, digests, false))
+}
+
+/// The digests of the lines of `text`, by their paths.
+fn collect(alloc: Global, text: &str) -> Result<DigestMap, PolicyFault>
+    ensures digests { IfOk result (λ digests. ListsDigests text.now digests) }
+    ensures fault { IfErr result (λ fault. IsFlatFault text.now fault) }
+{
+    let mut digests = DigestMap::new(alloc);
+    let mut number = 0;
+    for line in lines(text) {
+        if !line.is_empty() {
+            let Some(listed) = read_line(line) else {
+                return Err(PolicyFault::Line(number));
+            };
+            digests.add(alloc, listed.path, listed.digest)?;
+        }
+        number += 1;
+    }
+    Ok(digests)
+}

@@ -1,0 +1,10 @@
+pub mod Splitting
+pub mod Escapes
+pub mod Decimals
+pub mod Fields
+pub mod Masks
+pub mod Pieces
+pub mod Faults
+pub mod Fixed
+pub mod Arguments
+pub mod Unique

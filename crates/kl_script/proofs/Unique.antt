@@ -1,0 +1,142 @@
+-- A line spells at most one command.
+use Rattle.std.proofs.Common.{◌≡◌, ◌≢◌, ℕ, zero, suc, ◌<◌, ◌≤◌, ◌==◌, Bool, true, false, not, List, [], ◌∷◌, ◌++◌, length, get_or, Option, Some, None, Result, Ok, Err, codes, refl, sym, ap, subst, ◌∙◌, arith}
+use Rattle.std.specs.Prelude.{IfOk}
+use Rattle.std.specs.List.{list_all}
+use Rattle.std.specs.Str.Parse.{digits_value}
+use Rattle.std.proofs.lemmas.Bool.{false≢true}
+use Rattle.std.proofs.lemmas.List.Sums.{AllPass-from_list_all}
+use Rattle.std.proofs.lemmas.Fmt.{decimal_injective}
+use Rattle.hex.proofs.HexLemmas.{decode_of-same}
+use Rattle.kl_bank.specs.declared.bank.Bank.{Bank}
+use Rattle.kl_bank.specs.declared.bank.Bank.TheVariants.{Sha1, Sha256, Sha384}
+use Rattle.kl_bank.specs.Banks.{name_of}
+use Rattle.kl_pcr.specs.declared.statics.Static.{Static}
+use Rattle.kl_script.specs.declared.fault.CommandFault.{CommandFault}
+use Rattle.kl_script.specs.declared.fault.CommandFault.TheVariants.{NoCommand, Memory}
+use Rattle.kl_script.specs.declared.command.Command.{Command}
+use Rattle.kl_script.specs.Words.{HasNo, IsEscaped, IsField, IsNumber}
+use Rattle.kl_script.specs.Digits.{IsKey, IsMask, IsShare}
+use Rattle.kl_script.specs.Statics.{IsStatics}
+use Rattle.kl_script.specs.Commands.{AddFields, BeginFields, ReplyFields, CommandFields, add, begin, reply, fields, SpellsAdd, SpellsBegin, SpellsReply, SpellsArguments, Spells, IsRead, name_of_command}
+use Rattle.kl_script.proofs.Splitting.{heads, tails, same_word, IsSplit-same}
+use Rattle.kl_script.proofs.Escapes.{IsEscaped-same}
+use Rattle.kl_script.proofs.Fields.{IsField-same}
+use Rattle.kl_script.proofs.Fixed.{IsStatics-same}
+use Rattle.kl_script.proofs.Arguments.{agent_has_no_space}
+
+-- ---- a word spells one value
+
+name_of-same : (a b : Bank) → name_of a ≡ name_of b → a ≡ b
+name_of-same Sha1 Sha1 e = refl
+name_of-same Sha256 Sha256 e = refl
+name_of-same Sha384 Sha384 e = refl
+name_of-same Sha1 Sha256 e = absurd (omega (arith, ap length e))
+name_of-same Sha1 Sha384 e = absurd (omega (arith, ap length e))
+name_of-same Sha256 Sha1 e = absurd (omega (arith, ap length e))
+name_of-same Sha384 Sha1 e = absurd (omega (arith, ap length e))
+name_of-same Sha256 Sha384 e = absurd (omega (arith, ap (λ (t : List ℕ). get_or t 3 0) e))
+name_of-same Sha384 Sha256 e = absurd (omega (arith, ap (λ (t : List ℕ). get_or t 3 0) e))
+
+IsMask-same : (written : List ℕ) (m n : ℕ) → IsMask written m → IsMask written n → m ≡ n
+IsMask-same written m n g h =
+    let digits : g.0 ≡ h.0 = tails (tails (sym g.1 ∙ h.1)) in
+    g.5 ∙ ap (digits_value 16) digits ∙ sym h.5
+
+IsShare-same : (written : List ℕ) (v w : Option (List ℕ)) → IsShare written v → IsShare written w → v ≡ w
+IsShare-same written None None g h = refl
+IsShare-same written None (Some w) g h = absurd (omega (arith, ap length g, h.0))
+IsShare-same written (Some v) None g h = absurd (omega (arith, ap length h, g.0))
+IsShare-same written (Some v) (Some w) g h = ap (λ (b : List ℕ). Some b) (decode_of-same written v w g.1 h.1)
+
+IsNumber-same : (written : List ℕ) (m n : ℕ) → IsNumber written m → IsNumber written n → m ≡ n
+IsNumber-same written m n g h = decimal_injective m n g.0 h.0 (sym g.1 ∙ h.1)
+
+-- ---- the arguments spell one command
+
+SpellsAdd-same : (arguments : List ℕ) (a b : AddFields) → SpellsAdd arguments a → SpellsAdd arguments b → a ≡ b
+SpellsAdd-same arguments a b s t =
+    let expected : List (List ℕ) = a.agent ∷ s.contact ∷ name_of a.bank ∷ s.mask ∷ s.statics ∷ s.ak ∷ s.v ∷ codes "flat" ∷ [] in
+    let others : List (List ℕ) = b.agent ∷ t.contact ∷ name_of b.bank ∷ t.mask ∷ t.statics ∷ t.ak ∷ t.v ∷ codes "flat" ∷ [] in
+    let same = IsSplit-same arguments 8 expected others s.policy t.policy s.split t.split in
+    let e0 = same.0 in
+    let e1 = tails e0 in
+    let e2 = tails e1 in
+    let e3 = tails e2 in
+    let e4 = tails e3 in
+    let e5 = tails e4 in
+    let e6 = tails e5 in
+    let agent : a.agent ≡ b.agent = heads e0 in
+    let contact : a.contact ≡ b.contact = IsField-same t.contact a.contact b.contact (subst (λ w. IsField w a.contact) (heads e1) s.is_contact) t.is_contact in
+    let bank : a.bank ≡ b.bank = name_of-same a.bank b.bank (heads e2) in
+    let mask : a.mask ≡ b.mask = IsMask-same t.mask a.mask b.mask (subst (λ w. IsMask w a.mask) (heads e3) s.is_mask) t.is_mask in
+    let statics : a.statics ≡ b.statics = IsStatics-same t.statics a.statics b.statics (subst (λ w. IsStatics w a.statics) (heads e4) s.is_statics) t.is_statics in
+    let ak : a.ak ≡ b.ak = decode_of-same t.ak a.ak b.ak (subst (λ w. IsKey w a.ak) (heads e5) s.is_ak).2 t.is_ak.2 in
+    let v : a.v ≡ b.v = IsShare-same t.v a.v b.v (subst (λ w. IsShare w a.v) (heads e6) s.is_v) t.is_v in
+    let policy : a.policy ≡ b.policy = IsEscaped-same t.policy a.policy b.policy (subst (λ w. IsEscaped w a.policy) same.1 s.is_policy) t.is_policy in
+    let made : List ℕ → List ℕ → Bank → ℕ → List Static → List ℕ → Option (List ℕ) → List ℕ → AddFields =
+    λ agent contact bank mask statics ak v policy. record { agent = agent; contact = contact; bank = bank; mask = mask; statics = statics; ak = ak; v = v; policy = policy } in
+    let whole : made a.agent a.contact a.bank a.mask a.statics a.ak a.v a.policy ≡ made b.agent b.contact b.bank b.mask b.statics b.ak b.v b.policy = cc in
+    whole
+
+SpellsBegin-same : (arguments : List ℕ) (a b : BeginFields) → SpellsBegin arguments a → SpellsBegin arguments b → a ≡ b
+SpellsBegin-same arguments a b s t =
+    let same = same_word 32 a.agent b.agent a.nonce b.nonce (agent_has_no_space a.agent s.is_agent) (agent_has_no_space b.agent t.is_agent) (sym s.split ∙ t.split) in
+    let made : List ℕ → List ℕ → BeginFields = λ agent nonce. record { agent = agent; nonce = nonce } in
+    ap (λ agent. made agent a.nonce) same.0 ∙ ap (λ nonce. made b.agent nonce) same.1
+
+SpellsReply-same : (arguments : List ℕ) (a b : ReplyFields) → SpellsReply arguments a → SpellsReply arguments b → a ≡ b
+SpellsReply-same arguments a b s t =
+    let expected : List (List ℕ) = codes "1" ∷ s.bank ∷ s.start ∷ s.public ∷ s.quote ∷ [] in
+    let others : List (List ℕ) = codes "1" ∷ t.bank ∷ t.start ∷ t.public ∷ t.quote ∷ [] in
+    let same = IsSplit-same arguments 5 expected others s.list t.list s.split t.split in
+    let e1 = tails same.0 in
+    let e2 = tails e1 in
+    let e3 = tails e2 in
+    let e4 = tails e3 in
+    let bank : a.bank ≡ b.bank = IsField-same t.bank a.bank b.bank (subst (λ w. IsField w a.bank) (heads e1) s.is_bank) t.is_bank in
+    let start : a.start ≡ b.start = IsNumber-same t.start a.start b.start (subst (λ w. IsNumber w a.start) (heads e2) s.is_start) t.is_start in
+    let public : a.public ≡ b.public = IsField-same t.public a.public b.public (subst (λ w. IsField w a.public) (heads e3) s.is_public) t.is_public in
+    let quote : a.quote ≡ b.quote = IsField-same t.quote a.quote b.quote (subst (λ w. IsField w a.quote) (heads e4) s.is_quote) t.is_quote in
+    let list : a.list ≡ b.list = IsEscaped-same t.list a.list b.list (subst (λ w. IsEscaped w a.list) same.1 s.is_list) t.is_list in
+    let made : List ℕ → ℕ → List ℕ → List ℕ → List ℕ → ReplyFields = λ bank start public quote list. record { bank = bank; start = start; public = public; quote = quote; list = list } in
+    let whole : made a.bank a.start a.public a.quote a.list ≡ made b.bank b.start b.public b.quote b.list = cc in
+    whole
+
+SpellsArguments-same : (arguments : List ℕ) (x y : CommandFields) → name_of_command x ≡ name_of_command y → SpellsArguments arguments x → SpellsArguments arguments y → x ≡ y
+SpellsArguments-same arguments (add a) (add b) e s t = ap (λ (f : AddFields). add f) (SpellsAdd-same arguments a b s t)
+SpellsArguments-same arguments (begin a) (begin b) e s t = ap (λ (f : BeginFields). begin f) (SpellsBegin-same arguments a b s t)
+SpellsArguments-same arguments (reply a) (reply b) e s t = ap (λ (f : ReplyFields). reply f) (SpellsReply-same arguments a b s t)
+SpellsArguments-same arguments (add a) (begin b) e s t = absurd (omega (arith, heads e))
+SpellsArguments-same arguments (add a) (reply b) e s t = absurd (omega (arith, heads e))
+SpellsArguments-same arguments (begin a) (add b) e s t = absurd (omega (arith, heads e))
+SpellsArguments-same arguments (begin a) (reply b) e s t = absurd (omega (arith, heads e))
+SpellsArguments-same arguments (reply a) (add b) e s t = absurd (omega (arith, heads e))
+SpellsArguments-same arguments (reply a) (begin b) e s t = absurd (omega (arith, heads e))
+
+-- ---- a whole line
+
+no_space_from_test : (text : List ℕ) → list_all (λ b. not (b == 32)) text ≡ true → HasNo 32 text
+no_space_from_test text passes i lt e =
+    let other : not (32 == 32) ≡ true = subst (λ (b : ℕ). not (b == 32) ≡ true) e (AllPass-from_list_all (λ b. not (b == 32)) text passes i 0 lt) in
+    false≢true other
+
+pub name_has_no_space : (said : CommandFields) → HasNo 32 (name_of_command said)
+name_has_no_space (add a) = no_space_from_test (codes "add") refl
+name_has_no_space (begin b) = no_space_from_test (codes "begin") refl
+name_has_no_space (reply r) = no_space_from_test (codes "reply") refl
+
+pub other_name : (name : List ℕ) → name ≢ codes "add" → name ≢ codes "begin" → name ≢ codes "reply" → (said : CommandFields) → name ≢ name_of_command said
+other_name name a b r (add x) = a
+other_name name a b r (begin x) = b
+other_name name a b r (reply x) = r
+
+pub Spells-same : (line : List ℕ) (x y : CommandFields) → Spells line x → Spells line y → x ≡ y
+Spells-same line x y s t =
+    let same = same_word 32 (name_of_command x) (name_of_command y) s.arguments t.arguments (name_has_no_space x) (name_has_no_space y) (sym s.named ∙ t.named) in
+    SpellsArguments-same t.arguments x y same.0 (subst (λ (w : List ℕ). SpellsArguments w x) same.1 s.spelled) t.spelled
+
+-- so the command that is read is the one that the line spells
+pub read_as : (line : List ℕ) (r : Result Command CommandFault) → IfOk r (λ command. Spells line (fields command)) → (r ≡ Err NoCommand → (said : CommandFields) → ¬ (Spells line said)) → (said : CommandFields) → Spells line said → IsRead r said
+read_as line (Ok command) found none said s = Spells-same line (fields command) said found s
+read_as line (Err Memory) found none said s = tt
+read_as line (Err NoCommand) found none said s = none refl said s

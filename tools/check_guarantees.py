@@ -1,7 +1,8 @@
 #!/usr/bin/env python3
-"""Checks that every `crate::function` with its clauses that docs/GUARANTEES.md and the README name stands in the sources.
+"""Checks that every `crate::function` with its clauses that docs/GUARANTEES.md names stands in the sources.
 
-A row names a function as `crate::function` or `crate::Type::method`, and clauses as `clause` in the same row's last column.
+A row names a function as `crate::function` or `crate::Type::method`, and clauses as `clause` in the same row's last column;
+`the clause` is one that has no name.
 """
 import pathlib
 import re
@@ -35,7 +36,7 @@ def main():
             continue
         cells = [cell.strip() for cell in line.strip("|").split("|")]
         names = re.findall(r"`([\w:]+)`", cells[0])
-        clauses = re.findall(r"`(\w+)`", cells[-1])
+        clauses = re.findall(r"`([\w ]+)`", cells[-1])
         for name in names:
             crate, *path = name.split("::")
             if not (ROOT / "crates" / crate).is_dir() or not path:

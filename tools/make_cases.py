@@ -3,8 +3,10 @@
 
     tools/make_cases.py            writes examples/ and the stdin and stdout of crates/kl_cases
     tools/make_cases.py --check    says whether they stand as they would be written
+    tools/make_cases.py --run P    runs each whose key object meets no fault through the program P, the longest too
 """
 import pathlib
+import subprocess
 import sys
 from dataclasses import dataclass
 
@@ -132,6 +134,8 @@ appraised("second value of a static", ev.quote_of("sha256", "n1", GOOD, statics=
           add={"mask": "0x010401", "statics": "0=" + "00" * 32 + "," + "FF" * 32})
 case("key fault", ev.add_line(POLICY) + ev.begin_line() + ev.reply_line(GOOD_QUOTE, ev.list_text(GOOD)),
      INSTALLED + polled() + "dropped 1 keys state 3\n", key_faults="1")
+case("one key call alone", ev.add_line(POLICY) + ev.begin_line() + ev.reply_line(GOOD_QUOTE, ev.list_text(GOOD)),
+     INSTALLED + polled() + "verdict 1 pass 2 current state 5\n", key_faults="2")
 case("no key call before rule 4", ev.add_line(POLICY) + ev.begin_line() + ev.reply_line("x", ev.list_text(GOOD)),
      INSTALLED + polled() + "verdict 1 invalid form 0 current state 9\n", key_faults="1")
 
@@ -200,7 +204,23 @@ def files():
     return made
 
 
+def wrongly_run(program):
+    """The names of the examples that the program does not print as stated, or does not end as stated."""
+    wrong = []
+    for c in CASES:
+        if c.key_faults == "-":
+            ran = subprocess.run([program, "run"], input=c.script.encode(), stdout=subprocess.PIPE)
+            if (ran.stdout, ran.returncode) != (c.printed.encode(), c.status):
+                wrong.append(c.name)
+    return wrong
+
+
 def main():
+    if sys.argv[1:2] == ["--run"]:
+        wrong = wrongly_run(sys.argv[2])
+        for name in wrong:
+            print(f"{name} is not printed as stated")
+        return 1 if wrong else 0
     stale = [path for path, text in files().items()
              if not (ROOT / path).exists() or (ROOT / path).read_bytes() != text.encode()]
     if "--check" in sys.argv[1:]:

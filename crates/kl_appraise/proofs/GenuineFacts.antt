@@ -4,13 +4,11 @@ use Rattle.std.proofs.lemmas.Bool.{cases_lt, false≢true}
 use Rattle.std.proofs.lemmas.Slice.Eq.{bytes_eq-Decides}
 use Rattle.std.specs.Bool.{Decides}
 use Rattle.std.specs.Str.{bytes_eq}
-use Rattle.kl_attest.specs.Grammar.{Quoted}
 use Rattle.kl_entry.specs.Entries.{EntryFields}
-use Rattle.kl_entry.specs.Lines.{lines_of}
 use Rattle.kl_pcr.specs.Replay.{replay_of}
 use Rattle.kl_pcr.specs.Values.{value_at}
 use Rattle.kl_states.specs.declared.verdict.Verdict.{Verdict}
-use Rattle.kl_appraise.specs.Evidence.{Check, Attests, HasValues}
+use Rattle.kl_appraise.specs.Evidence.{Check, HasValues}
 use Rattle.kl_bank.specs.declared.bank.Bank.{Bank}
 use Rattle.kl_keys.specs.Relations.{Relations}
 use Rattle.kl_quote.specs.declared.evidence.Evidence.{Evidence}
@@ -20,7 +18,7 @@ use Rattle.kl_appraise.specs.declared.quoted.Checked.{Checked}
 use Rattle.kl_appraise.specs.declared.quoted.Checked.TheVariants.{Refused, Sound}
 use Rattle.kl_appraise.specs.QuoteRules.{IsUnasked, QuoteRules, IsSoundQuote, IsAnswered, FindsCause}
 use Rattle.kl_appraise.specs.Checked.{MeetsRules, ChecksAs, answer_of, cause_in, identity_check}
-use Rattle.kl_appraise.specs.ListRules.{Case, Judged, check_of, list_limit, WholeList, IsPlace, Replays, IsCut, ListVerdict}
+use Rattle.kl_appraise.specs.ListRules.{Case, Judged, check_of, list_limit, IsPlace, Replays, IsCut, ListVerdict}
 use Rattle.kl_appraise.specs.Outcome.{IsVerdict}
 use Rattle.kl_appraise.specs.Genuine.{IsGenuine, AllowsList, IsPass}
 use Rattle.kl_appraise.proofs.QuoteFacts.{sound_by, values_unique}

@@ -1,16 +1,14 @@
 -- What excludes each rule beyond the quote, and which rule is the first that applies.
-use Rattle.std.proofs.Common.{◌≡◌, ◌≢◌, ℕ, ◌+◌, ◌<◌, ◌≤◌, ◌⊎◌, List, [], ◌∷◌, ◌++◌, length, take, get_or, Option, Some, None, IsSomeAnd, All, refl, sym, ap, ◌∙◌, subst, inl, inr, arith}
+use Rattle.std.proofs.Common.{◌≡◌, ◌≢◌, ℕ, ◌+◌, ◌<◌, ◌≤◌, List, [], ◌∷◌, ◌++◌, length, take, Option, Some, None, IsSomeAnd, All, refl, sym, ap, ◌∙◌, subst, inl, inr, arith}
 use Rattle.std.proofs.lemmas.Bool.{cases_lt}
 use Rattle.std.proofs.lemmas.Option.{slice_get_within, get_or_from_slice_get}
 use Rattle.std.proofs.lemmas.Slice.Zip.{AllZip-long}
 use Rattle.std.specs.List.{AllZip, slice_get}
 use Rattle.kl_bank.specs.declared.bank.Bank.{Bank}
-use Rattle.kl_attest.specs.Grammar.{Quoted}
 use Rattle.kl_entry.specs.declared.fault.LineFault.{LineFault}
 use Rattle.kl_entry.specs.Entries.{EntryFields}
-use Rattle.kl_entry.specs.Lines.{lines_of, AreEntries, Spells, IsLineFault}
+use Rattle.kl_entry.specs.Lines.{lines_of, AreEntries, Spells}
 use Rattle.kl_entry.proofs.Spelling.{one_entry, fault_spells_none}
-use Rattle.kl_pcr.specs.Replay.{replay_of}
 use Rattle.kl_pcr.specs.Statics.{IsAllowed as HasAllowedValue, IsFirstWrong}
 use Rattle.kl_pcr.specs.Values.{value_at}
 use Rattle.kl_pcr.specs.declared.statics.Static.{Static}
@@ -23,10 +21,9 @@ use Rattle.kl_states.specs.declared.verdict.Verdict.TheVariants.{Pass, Failed, I
 use Rattle.kl_states.specs.declared.verdict.FailedCause.TheVariants.{Pcr, Line, ListFull, Unmatched, Entry}
 use Rattle.kl_states.specs.declared.verdict.InvalidCause.TheVariants.{Start}
 use Rattle.kl_states.specs.declared.verdict.EntryCause.{EntryCause}
-use Rattle.kl_appraise.specs.Evidence.{Attests, HasValues}
-use Rattle.kl_appraise.specs.QuoteRules.{◌otherwise◌}
-use Rattle.kl_appraise.specs.ListRules.{Case, Outcome, Judged, boot_of, line_cause, entry_cause, list_limit, WholeList, IsPlace, Replays, IsCut, IsFirstBadLine, ByStart, ByBoot, ByPcr, ByLine, ByListFull, ByUnmatched, ByEntry, Passes, ListVerdict}
-use Rattle.kl_appraise.specs.Listed.{ReplaysTo, NoneReplays, IsShortest, JudgesEntries}
+use Rattle.kl_appraise.specs.Evidence.{HasValues}
+use Rattle.kl_appraise.specs.ListRules.{Case, Outcome, Judged, line_cause, list_limit, WholeList, Replays, IsCut, IsFirstBadLine, ByStart, ByBoot, ByPcr, ByLine, ByListFull, ByUnmatched, ByEntry, ListVerdict}
+use Rattle.kl_appraise.specs.Listed.{IsShortest, JudgesEntries}
 use Rattle.kl_appraise.proofs.QuoteFacts.{values_unique}
 
 -- ---- A list text spells one list of entries.

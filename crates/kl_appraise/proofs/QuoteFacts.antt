@@ -1,5 +1,5 @@
 -- What excludes each rule on the quote, and which rule is the first that applies.
-use Rattle.std.proofs.Common.{◌≡◌, ◌≢◌, ℕ, ◌*◌, ◌⊎◌, Bool, true, false, List, length, count_ones, Option, Ok, Err, refl, sym, ◌∙◌, subst, inl, inr}
+use Rattle.std.proofs.Common.{◌≡◌, ◌≢◌, ℕ, ◌*◌, Bool, true, false, List, length, count_ones, Option, Ok, Err, refl, sym, ◌∙◌, subst, inl, inr}
 use Rattle.std.proofs.lemmas.Bool.{false≢true}
 use Rattle.sha2.specs.Sha256.{sha256}
 use Rattle.kl_bank.specs.Banks.{alg_of, name_of, size_of}
@@ -17,7 +17,7 @@ use Rattle.kl_states.specs.declared.verdict.InvalidCause.{InvalidCause}
 use Rattle.kl_states.specs.declared.verdict.InvalidCause.TheVariants.{Form, Bank, Attest, Signature, Nonce, Selection as OtherSelection, PcrLength, PcrDigest, Binding}
 use Rattle.kl_keys.specs.Relations.{Relations, Answers}
 use Rattle.kl_appraise.specs.Evidence.{Check, Attests, HasValues}
-use Rattle.kl_appraise.specs.QuoteRules.{◌otherwise◌, attest_cause, ByForm, ByBank, ByAttest, BySignature, ByNonce, BySelection, ByPcrLength, ByPcrDigest, ByBinding, SignedRules, QuoteRules, IsSoundQuote, IsUnasked, IsAnswered}
+use Rattle.kl_appraise.specs.QuoteRules.{attest_cause, ByForm, ByBank, ByAttest, BySignature, ByNonce, BySelection, ByPcrLength, ByPcrDigest, ByBinding, SignedRules, QuoteRules, IsSoundQuote, IsUnasked, IsAnswered}
 use Rattle.kl_appraise.specs.Checked.{MeetsRules}
 
 -- ---- A quote text holds one attestation and one list of values.

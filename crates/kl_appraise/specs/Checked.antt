@@ -1,7 +1,6 @@
 -- What the check of a quote answers.
 use Rattle.std.specs.Prelude.{◌≡◌, ℕ, ◌*◌, Bool, true, Option, None, Some, List, length, count_ones}
 use Rattle.sha2.specs.Sha256.{sha256}
-use Rattle.kl_bank.specs.declared.bank.Bank.{Bank}
 use Rattle.kl_bank.specs.declared.bank.Bank.TheVariants.{Sha256}
 use Rattle.kl_bank.specs.Banks.{alg_of, size_of}
 use Rattle.kl_attest.specs.Grammar.{Quoted}

@@ -1,9 +1,9 @@
 //! The check that a quote is of a key that is bound to a machine.
 
-ghost use Rattle.std.specs.Prelude.{◌≡◌, Bool, IfOk, IsErrOf};
+ghost use Rattle.std.specs.Prelude.{◌≡◌, Bool, IfOk, IsErrOf, false};
 ghost use Rattle.kl_keys.specs.Causes.{HasCause};
 ghost use Rattle.kl_appraise.specs.Checked.{cause_in, identity_check};
-ghost use Rattle.kl_appraise.specs.QuoteRules.{FindsCause, IsAnswered};
+ghost use Rattle.kl_appraise.specs.QuoteRules.{FindsCause, IsAnswered, IsUnasked};
 
 use crate::fault::AppraiseError;
 use crate::quoted::{Checked, Wanted, check_quote};
@@ -34,6 +34,8 @@ pub fn check_identity<Y: Keys>(
     ensures rules { IfOk result (λ found. (signed : Bool)
         × IsAnswered (Y.told keys.old) ak.now (identity_check nonce.now evidence.now signed)
         × FindsCause (identity_check nonce.now evidence.now signed) found) }
+    // The key object is blamed only where it was to be asked.
+    ensures asked { IsErrOf result AppraiseError.Keys → ¬ (IsUnasked (identity_check nonce.now evidence.now false)) }
     ensures told { Y.told keys.new ≡ Y.told keys.old }
     // The count of faults never falls, and it rose where the key object is blamed.
     ensures cause { HasCause (Y.fault_count keys.old) (Y.fault_count keys.new) (IsErrOf result AppraiseError.Keys) }

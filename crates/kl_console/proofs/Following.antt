@@ -1,6 +1,6 @@
 -- Lines that follow one another in a session.
-use Rattle.std.proofs.Common.{◌≡◌, ◌≤◌, ◌<◌, ℕ, List, [], ◌∷◌, ◌++◌, refl, sym, subst, ap, inl, inr, arith}
-use Rattle.kl_keys.specs.Causes.{Rose, more}
+use Rattle.std.proofs.Common.{◌≡◌, ◌≤◌, ◌<◌, ℕ, List, [], ◌∷◌, ◌++◌, refl, subst, ap, inl, inr, arith}
+use Rattle.kl_keys.specs.Causes.{Rose}
 use Rattle.kl_script.specs.Commands.{CommandFields, ReplyFields, add, begin, reply}
 use Rattle.kl_appraise.specs.Terms.{TermsFields}
 use Rattle.kl_console.specs.Session.{KeyLog, Stage, Empty, Installed, Polled, Over, Adds, IsJudged, Concludes, Obeys, Does, Follows, rank}

@@ -1,7 +1,7 @@
 -- A piece of a chunk put at the end of a line.
-use Rattle.std.proofs.Common.{◌≡◌, ℕ, suc, ◌+◌, ◌-◌, ◌<◌, ◌≤◌, List, ◌∷◌, ◌++◌, length, take, drop, refl, sym, ap, ◌∙◌, append_assoc, arith, length-take, length-drop}
+use Rattle.std.proofs.Common.{◌≡◌, ℕ, ◌+◌, ◌-◌, ◌≤◌, List, ◌∷◌, ◌++◌, take, drop, sym, ap, ◌∙◌, append_assoc, arith}
 use Rattle.std.proofs.lemmas.List.{drop-take, drop-drop}
-use Rattle.kl_console.specs.Lines.{HasNoNewline, IsNewlineAt}
+use Rattle.kl_console.specs.Lines.{IsNewlineAt}
 
 -- what is left of a part of a chunk behind its first n + 1 bytes
 pub rest_of_part : (chunk : List ℕ) (start stop n : ℕ) → n ≤ stop - start → take (stop - (start + n)) (drop (start + n) chunk) ≡ drop n (take (stop - start) (drop start chunk))

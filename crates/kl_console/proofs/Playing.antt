@@ -1,5 +1,5 @@
 -- The turns of a session, one after another.
-use Rattle.std.proofs.Common.{◌≡◌, ◌≤◌, ◌<◌, ◌+◌, ℕ, List, [], ◌∷◌, ◌++◌, length, Option, Result, Ok, Err, refl, sym, subst, ap, ◌∙◌, inl, inr, arith, append_assoc, All}
+use Rattle.std.proofs.Common.{◌≡◌, ◌≤◌, ◌<◌, ◌+◌, ℕ, List, [], ◌∷◌, ◌++◌, Option, Result, Ok, Err, refl, sym, subst, ap, ◌∙◌, inl, inr, arith, append_assoc}
 use Rattle.std.specs.List.{concat}
 use Rattle.std.specs.Io.KnownBytes.{Appends, Consumes}
 use Rattle.std.proofs.KnownBytes.{Appends-nil, Appends-trans, Consumes-nil, Consumes-trans}
@@ -9,7 +9,7 @@ use Rattle.std.proofs.lemmas.List.Folds.{concat-append}
 use Rattle.kl_keys.specs.Relations.{Relations}
 use Rattle.kl_console.specs.Lines.{IsLine, ended}
 use Rattle.kl_console.specs.Texts.{fault_text}
-use Rattle.kl_console.specs.Session.{KeyLog, Stage, Empty, Installed, Polled, Over, Does, Follows, IsPolled, rank}
+use Rattle.kl_console.specs.Session.{KeyLog, Stage, Empty, Installed, Polled, Over, Does, IsPolled, rank}
 use Rattle.kl_console.specs.Script.{Session, IsBad, printed, next_number}
 use Rattle.kl_console.specs.Stages.{stage_of}
 use Rattle.kl_console.specs.Run.{Costs, Prints}
@@ -36,7 +36,7 @@ pub record Played (keys : KeyLog) (left left' held held' : Option (List ℕ)) (s
   pub numbered : number ≡ next_number session
   pub ranked : number + rank stage ≤ 4
   pub spent : 0 < rank stage → steps' ≤ steps
-  pub costs : Costs steps steps' consumed
+  pub costs : Costs keys steps steps' consumed
 
 pub played_start : (keys : KeyLog) (left held : Option (List ℕ)) (steps : ℕ) → Played keys left left held held steps steps [] Empty 1
 played_start keys left held steps = record {
@@ -55,6 +55,12 @@ played_start keys left held steps = record {
 abbrev wider_session : (inner outer : KeyLog) → IsWider inner outer → Session inner → Session outer
 wider_session inner outer w s = record { lines = s.lines; texts = s.texts; stage = s.stage; each = s.each; follows = Follows-wider inner outer Empty s.lines s.texts s.stage w s.follows }
 
+Costs-wider : (inner outer : KeyLog) (steps steps' : ℕ) (consumed : List ℕ) → IsWider inner outer → Costs inner steps steps' consumed → Costs outer steps steps' consumed
+Costs-wider inner outer steps steps' consumed w costs = elim costs [
+  | inl few ↦ inl few
+  | inr (r, (s, line, more, polled, is, whole, spelled), few) ↦ inr (r, (wider_session inner outer w s, line, more, polled, is, whole, spelled), few)
+]
+
 -- the same over a longer time
 pub Played-wider : (inner outer : KeyLog) (left left' held held' : Option (List ℕ)) (steps steps' : ℕ) (ahead : List ℕ) (stage : Stage) (number : ℕ) → IsWider inner outer
     → Played inner left left' held held' steps steps' ahead stage number → Played outer left left' held held' steps steps' ahead stage number
@@ -68,7 +74,7 @@ Played-wider inner outer left left' held held' steps steps' ahead stage number w
   numbered = p.numbered;
   ranked = p.ranked;
   spent = p.spent;
-  costs = p.costs;
+  costs = Costs-wider inner outer steps steps' p.consumed w p.costs;
 }
 
 IsPolled-ranked : (stage : Stage) → IsPolled stage → rank stage ≡ 1
@@ -82,18 +88,21 @@ joined : (lines : List (List ℕ)) (consumed ahead more : List ℕ) → consumed
 joined lines consumed ahead more e = ap (λ (t : List ℕ). t ++ more) e ∙ append_assoc (ended lines) ahead more
 
 -- what was spent so far, and in a turn
-Costs-more : (steps steps' steps'' : ℕ) (lines : List (List ℕ)) (consumed ahead more : List ℕ) (stage : Stage) → (0 < rank stage → steps' ≤ steps) → Costs steps steps' consumed
-    → consumed ≡ ended lines ++ ahead → TurnCosts stage (ahead ++ more) steps' steps'' → Costs steps steps'' (consumed ++ more)
-Costs-more steps steps' steps'' lines consumed ahead more stage spent costs cut turn = elim turn [
+Costs-more : (keys : KeyLog) (steps steps' steps'' : ℕ) (s : Session keys) (consumed ahead more : List ℕ) (stage : Stage) → s.stage ≡ stage → (0 < rank stage → steps' ≤ steps) → Costs keys steps steps' consumed
+    → consumed ≡ ended s.lines ++ ahead → TurnCosts stage (ahead ++ more) steps' steps'' → Costs keys steps steps'' (consumed ++ more)
+Costs-more keys steps steps' steps'' s consumed ahead more stage at spent costs cut turn = elim turn [
   | inl none ↦ elim costs [
     | inl few ↦ inl (omega arith)
-    | inr (ls, line, rest, r, is, spelled, few) ↦
-        inr (ls, line, rest ++ more, r, ap (λ (t : List ℕ). t ++ more) is ∙ append_assoc (ended ls) (line ++ 10 ∷ rest) more ∙ ap (λ (t : List ℕ). ended ls ++ t) (append_assoc line (10 ∷ rest) more), spelled, omega arith)
+    | inr (r, (before, line, rest, polled, is, whole, spelled), few) ↦
+        let start = ended before.lines in
+        let on = ap (λ (t : List ℕ). t ++ more) is ∙ append_assoc start (line ++ 10 ∷ rest) more ∙ ap (λ (t : List ℕ). start ++ t) (append_assoc line (10 ∷ rest) more) in
+        inr (r, (before, line, rest ++ more, polled, on, whole, spelled), omega arith)
   ]
-  | inr (polled, (line, rest, r, is, spelled, few)) ↦
+  | inr (polled, (line, rest, r, is, whole, spelled, few)) ↦
       let one = IsPolled-ranked stage polled in
       let before : steps' ≤ steps = spent (omega (arith, one)) in
-      inr (lines, line, rest, r, joined lines consumed ahead more cut ∙ ap (λ (t : List ℕ). ended lines ++ t) is, spelled, omega arith)
+      let awaits : IsPolled s.stage = subst IsPolled (sym at) polled in
+      inr (r, (s, line, rest, awaits, joined s.lines consumed ahead more cut ∙ ap (λ (t : List ℕ). ended s.lines ++ t) is, whole, spelled), omega arith)
 ]
 
 -- a turn after others
@@ -123,7 +132,7 @@ played_turn keys left left' left'' held held' held'' steps steps' steps'' ahead 
       numbered = omega (arith, p.numbered, length_push s.lines line);
       ranked = omega (arith, p.ranked, lower);
       spent = λ going. elim t.5 [ inl none ↦ (let before : steps' ≤ steps = p.spent (omega arith) in omega arith) | inr (polled, costly) ↦ absurd (omega (arith, IsPolled-ranked stage polled)) ];
-      costs = Costs-more steps steps' steps'' s.lines p.consumed ahead more stage p.spent p.costs p.cut t.5;
+      costs = Costs-more keys steps steps' steps'' s p.consumed ahead more stage p.at p.spent p.costs p.cut t.5;
     }
 
 -- a turn that could print this, after others
@@ -162,16 +171,12 @@ ended_as keys left s stage consumed ahead more ahead' written number WriteFault 
   prints_on keys left s stage (consumed ++ more) (ahead ++ more) t.0 number at (joined s.lines consumed ahead more cut) numbered t.2,
   ap (λ (u : List ℕ). printed s ++ u) t.3 ∙ sym (append_assoc (printed s) written t.1),
 )
-ended_as keys left s stage consumed ahead more ahead' written number Memory at cut numbered t = (
-  printed s,
-  [],
-  (s, ahead ++ more, joined s.lines consumed ahead more cut, inl refl),
-  sym (append-nil (printed s ++ written) ∙ ap (λ (u : List ℕ). printed s ++ u) t ∙ append-nil (printed s)),
-)
+ended_as keys left s stage consumed ahead more ahead' written number Memory at cut numbered t =
+    (s, ahead ++ more, [], joined s.lines consumed ahead more cut, sym (append-nil (printed s ++ written) ∙ ap (λ (u : List ℕ). printed s ++ u) t ∙ append-nil (printed s)))
 
 pub played_end : (keys : KeyLog) (left left' left'' held held' held'' : Option (List ℕ)) (steps steps' steps'' : ℕ) (ahead ahead' : List ℕ) (stage : Stage) (number : ℕ) (end : End)
     → Played keys left left' held held' steps steps' ahead stage number → Turns keys number stage left' left'' held' held'' ahead ahead' steps' steps'' (Err end)
-    → Ends keys left left'' held held'' end × ((consumed : List ℕ) × Consumes left left'' consumed × Costs steps steps'' consumed)
+    → Ends keys left left'' held held'' end × ((consumed : List ℕ) × Consumes left left'' consumed × Costs keys steps steps'' consumed)
 played_end keys left left' left'' held held' held'' steps steps' steps'' ahead ahead' stage number end p t =
     let reads = Consumes-trans left left' left'' p.consumed t.0 p.reads t.2 in (
       (
@@ -181,7 +186,7 @@ played_end keys left left' left'' held held' held'' steps steps' steps'' ahead a
         Appends-trans held held' held'' (printed p.session) t.1 p.writes t.3,
         ended_as keys left'' p.session stage p.consumed ahead t.0 ahead' t.1 number end p.at p.cut p.numbered t.4,
       ),
-      (p.consumed ++ t.0, reads, Costs-more steps steps' steps'' p.session.lines p.consumed ahead t.0 stage p.spent p.costs p.cut t.5),
+      (p.consumed ++ t.0, reads, Costs-more keys steps steps' steps'' p.session p.consumed ahead t.0 stage p.at p.spent p.costs p.cut t.5),
     )
 
 CanPrint-wider : (inner outer : KeyLog) (number : ℕ) (left : Option (List ℕ)) (stage : Stage) (bytes text : List ℕ) → IsWider inner outer → CanPrint inner number left stage bytes text → CanPrint outer number left stage bytes text
@@ -221,7 +226,7 @@ turn_after told told' first now then' left left' left'' held held' held'' steps 
 pub end_after : (told told' : Option Relations) (first now then' : ℕ) (left left' left'' held held' held'' : Option (List ℕ)) (steps steps' steps'' : ℕ) (ahead ahead' : List ℕ) (stage : Stage) (number : ℕ) (end : End)
     → told' ≡ told → first ≤ now → now ≤ then' → Played (log told first now) left left' held held' steps steps' ahead stage number
     → Turns (log told' now then') number stage left' left'' held' held'' ahead ahead' steps' steps'' (Err end)
-    → Ends (log told first then') left left'' held held'' end × ((consumed : List ℕ) × Consumes left left'' consumed × Costs steps steps'' consumed)
+    → Ends (log told first then') left left'' held held'' end × ((consumed : List ℕ) × Consumes left left'' consumed × Costs (log told first then') steps steps'' consumed)
 end_after told told' first now then' left left' left'' held held' held'' steps steps' steps'' ahead ahead' stage number end same lo hi p t =
     played_end (log told first then') left left' left'' held held' held'' steps steps' steps'' ahead ahead' stage number end
     (Played-wider (log told first now) (log told first then') left left' held held' steps steps' ahead stage number (record { told = refl; before = omega arith; after = hi }) p)
@@ -234,7 +239,7 @@ ends_at_once keys left held = (
   [],
   Consumes-nil left,
   Appends-nil held,
-  ([], [], (record { lines = []; texts = []; stage = Empty; each = All-nil IsLine; follows = refl }, [], refl, inl refl), refl),
+  (record { lines = []; texts = []; stage = Empty; each = All-nil IsLine; follows = refl }, [], [], refl, refl),
 )
 
 -- a turn that goes on leaves fewer to come

@@ -1,5 +1,5 @@
 -- What one turn wrote, from what its parts ensure.
-use Rattle.std.proofs.Common.{◌≡◌, ◌≢◌, ◌≤◌, ℕ, List, [], ◌∷◌, ◌++◌, Option, Some, None, Result, Ok, Err, refl, sym, subst, ap, ◌∙◌, inl, inr, arith}
+use Rattle.std.proofs.Common.{◌≡◌, ◌≢◌, ℕ, List, [], ◌∷◌, ◌++◌, Option, Some, None, Result, Ok, Err, refl, sym, subst, ◌∙◌, inl, inr, arith}
 use Rattle.std.proofs.lemmas.List.{append-nil}
 use Rattle.std.specs.Io.KnownBytes.{Appends, Consumes}
 use Rattle.kl_io.specs.Causes.{AppendsFront}
@@ -35,8 +35,8 @@ complained keys number left stage bytes ahead' held held' WriteFault bad h = (h.
 complained keys number left stage bytes ahead' held held' Memory bad h = ([], Appends-same held held' h, refl)
 
 -- the steps of a line are steps of the bytes that begin with it
-pub line_costs : (stage : Stage) (line more : List ℕ) (before after : ℕ) → LineCosts stage line before after → TurnCosts stage (line ++ 10 ∷ more) before after
-line_costs stage line more before after h = elim h [ inl few ↦ inl few | inr (polled, (r, spelled, few)) ↦ inr (polled, (line, more, r, refl, spelled, few)) ]
+pub line_costs : (stage : Stage) (line more : List ℕ) (before after : ℕ) → IsLine line → LineCosts stage line before after → TurnCosts stage (line ++ 10 ∷ more) before after
+line_costs stage line more before after whole h = elim h [ inl few ↦ inl few | inr (polled, (r, spelled, few)) ↦ inr (polled, (line, more, r, refl, whole, spelled, few)) ]
 
 -- what was read, answered
 pub turn_by : (keys : KeyLog) (number : ℕ) (stage : Stage) (left left' held held' : Option (List ℕ)) (ahead ahead' bytes : List ℕ) (steps steps' : ℕ) (result : Result Kept End)
@@ -50,7 +50,7 @@ pub turn_line : (keys : KeyLog) (number : ℕ) (stage : Stage) (left left' held 
     → ReadsLine left left' old new (Ok Line) → ((left : Option (List ℕ)) → Answered keys number left stage (new.line ++ 10 ∷ new.ahead) ahead' held held' result)
     → LineCosts stage new.line steps steps' → Turns keys number stage left left' held held' old.ahead ahead' steps steps' result
 turn_line keys number stage left left' held held' old new ahead' steps steps' result r a cost =
-    turn_by keys number stage left left' held held' old.ahead ahead' (new.line ++ 10 ∷ new.ahead) steps steps' result (r.0, r.1, r.2.0) (a left') (line_costs stage new.line new.ahead steps steps' cost)
+    turn_by keys number stage left left' held held' old.ahead ahead' (new.line ++ 10 ∷ new.ahead) steps steps' result (r.0, r.1, r.2.0) (a left') (line_costs stage new.line new.ahead steps steps' r.2.1 cost)
 
 -- more was read than a line may have
 pub turn_long : (keys : KeyLog) (number : ℕ) (stage : Stage) (left left' held held' : Option (List ℕ)) (old new : Reading) (ahead' : List ℕ) (steps : ℕ) (end : End)

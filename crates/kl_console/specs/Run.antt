@@ -1,11 +1,11 @@
 -- What a run reads and writes, by how it ends.
-use Rattle.std.specs.Prelude.{◌≡◌, ◌⊎◌, ℕ, ◌+◌, ◌≤◌, List, [], ◌∷◌, ◌++◌, length, Option}
+use Rattle.std.specs.Prelude.{◌≡◌, ◌⊎◌, ℕ, ◌+◌, ◌≤◌, List, ◌∷◌, ◌++◌, length, Option}
 use Rattle.std.specs.Io.KnownBytes.{Appends, Consumes, IsAtEnd}
 use Rattle.kl_entry.specs.Lines.{lines_of}
 use Rattle.kl_script.specs.Commands.{ReplyFields, reply, Spells}
 use Rattle.kl_console.specs.Lines.{IsLine, ended}
 use Rattle.kl_console.specs.Texts.{fault_text}
-use Rattle.kl_console.specs.Session.{KeyLog}
+use Rattle.kl_console.specs.Session.{KeyLog, IsPolled}
 use Rattle.kl_console.specs.Script.{Session, IsBad, next_number, printed}
 
 -- What was taken from a source, which had the one and has the other left, and what was put into a sink, which held the
@@ -35,17 +35,26 @@ Prints keys left consumed output =
     (s : Session keys) × (rest : List ℕ) × (consumed ≡ ended s.lines ++ rest)
     × ((output ≡ printed s) ⊎ (IsBad left s.stage rest × (output ≡ printed s ++ fault_text (next_number s))))
 
+-- what was written is the beginning of the texts of lines that were read
+abbrev pub IsShort : KeyLog → List ℕ → List ℕ → Type 0
+IsShort keys consumed written =
+    (s : Session keys) × (rest : List ℕ) × (lost : List ℕ) × (consumed ≡ ended s.lines ++ rest) × (printed s ≡ written ++ lost)
+
 -- what was written is the beginning of what is to be printed
 abbrev pub IsCutOff : KeyLog → Option (List ℕ) → List ℕ → List ℕ → Type 0
 IsCutOff keys left consumed written =
     (output : List ℕ) × (lost : List ℕ) × Prints keys left consumed output × (output ≡ written ++ lost)
 
--- no step was taken, or the line of a reply was read and at most one step was taken for each entry of its list
-abbrev pub Costs : ℕ → ℕ → List ℕ → Type 0
-Costs before after consumed =
-    (after ≤ before)
-    ⊎ ((lines : List (List ℕ)) × (line : List ℕ) × (more : List ℕ) × (r : ReplyFields)
-    × (consumed ≡ ended lines ++ (line ++ 10 ∷ more)) × Spells line (reply r) × (after ≤ before + length (lines_of r.list)))
+-- the bytes begin with the lines of a session that awaits a reply, and then have the line of a reply with this list
+abbrev pub HasReply : KeyLog → List ℕ → ReplyFields → Type 0
+HasReply keys consumed r =
+    (s : Session keys) × (line : List ℕ) × (more : List ℕ)
+    × IsPolled s.stage × (consumed ≡ ended s.lines ++ (line ++ 10 ∷ more)) × IsLine line × Spells line (reply r)
+
+-- no step was taken, or the reply that a session awaited was read, and at most one step was taken for each entry of its list
+abbrev pub Costs : KeyLog → ℕ → ℕ → List ℕ → Type 0
+Costs keys before after consumed =
+    (after ≤ before) ⊎ ((r : ReplyFields) × HasReply keys consumed r × (after ≤ before + length (lines_of r.list)))
 
 -- the numbers with which a run ends
 abbrev pub IsStatus : ℕ → Type 0

@@ -2,8 +2,7 @@
 use Rattle.std.specs.Prelude.{◌≡◌, ◌≢◌, ◌⊎◌, ℕ, ◌+◌, List, [], ◌∷◌, ◌++◌, length, All, Option}
 use Rattle.std.specs.List.{concat}
 use Rattle.std.specs.Io.KnownBytes.{IsAtEnd}
-use Rattle.kl_console.specs.Lines.{IsLine, IsTooLong, ended}
-use Rattle.kl_console.specs.Texts.{fault_text}
+use Rattle.kl_console.specs.Lines.{IsLine, IsTooLong}
 use Rattle.kl_console.specs.Session.{KeyLog, Stage, Empty, Follows, IsNoCommand}
 
 -- a session that began with nothing: its lines, each with the command of its place, and what they printed

@@ -10,7 +10,7 @@ use Rattle.kl_appraise.specs.Terms.{AreTerms, TermsFields}
 use Rattle.kl_appraise.specs.QuoteRules.{IsAnswered, IsUnasked}
 use Rattle.kl_appraise.specs.ListRules.{check_of}
 use Rattle.kl_appraise.specs.Outcome.{whole_case, IsVerdict}
-use Rattle.kl_script.specs.Commands.{AddFields, BeginFields, ReplyFields, CommandFields, add, begin, reply, Spells}
+use Rattle.kl_script.specs.Commands.{AddFields, ReplyFields, CommandFields, add, begin, reply, Spells}
 use Rattle.kl_console.specs.declared.texts.Refusal.{Refusal}
 use Rattle.kl_console.specs.Terms.{IsRefusal, NamesTerms}
 use Rattle.kl_console.specs.Texts.{dropped_text, installed_text, judged_text, polled_text, refused_text}
@@ -63,7 +63,7 @@ IsJudged keys terms nonce e text =
     (signed : Bool) × (verdict : Verdict) × IsAnswered keys.told terms.ak (check_of (whole_case terms nonce e signed))
     × IsVerdict (whole_case terms nonce e signed) verdict × (text ≡ judged_text verdict (state_after terms.v verdict))
 
--- The key object was asked and answered a fault, which it counted.
+-- No rule before that on the signature decides, so the key object is to be asked; and its count of faults rose.
 abbrev pub IsDropped : KeyLog → TermsFields → List ℕ → Evidence → List ℕ → Type 0
 IsDropped keys terms nonce e text =
     Rose keys.before keys.after × (¬ IsUnasked (check_of (whole_case terms nonce e false))) × (text ≡ dropped_text)

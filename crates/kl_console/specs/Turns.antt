@@ -9,7 +9,7 @@ use Rattle.kl_console.specs.Texts.{fault_text}
 use Rattle.kl_console.specs.Session.{KeyLog, Stage, Does, IsPolled}
 use Rattle.kl_console.specs.Script.{IsBad}
 use Rattle.kl_console.specs.Stages.{stage_of}
-use Rattle.kl_console.specs.Run.{Ran, IsDone, IsFaulty, IsBroken, IsCutOff}
+use Rattle.kl_console.specs.Run.{Ran, IsDone, IsFaulty, IsBroken, IsCutOff, IsShort}
 use Rattle.kl_console.specs.declared.session.Stage.{Stage as Kept}
 use Rattle.kl_console.specs.declared.turn.End.{End}
 use Rattle.kl_console.specs.declared.turn.End.TheVariants.{Done, Fault, ReadFault, WriteFault, Memory}
@@ -39,7 +39,7 @@ abbrev pub TurnCosts : Stage → List ℕ → ℕ → ℕ → Type 0
 TurnCosts stage bytes before after =
     (after ≤ before)
     ⊎ (IsPolled stage
-    × ((line : List ℕ) × (more : List ℕ) × (r : ReplyFields) × (bytes ≡ line ++ 10 ∷ more) × Spells line (reply r)
+    × ((line : List ℕ) × (more : List ℕ) × (r : ReplyFields) × (bytes ≡ line ++ 10 ∷ more) × IsLine line × Spells line (reply r)
     × (after ≤ before + length (lines_of r.list))))
 
 -- the steps of a line that was read whole
@@ -72,7 +72,7 @@ EndIs keys left Done consumed written = IsDone keys left consumed written
 EndIs keys left Fault consumed written = IsFaulty keys left consumed written
 EndIs keys left ReadFault consumed written = IsBroken keys consumed written
 EndIs keys left WriteFault consumed written = IsCutOff keys left consumed written
-EndIs keys left Memory consumed written = IsCutOff keys left consumed written
+EndIs keys left Memory consumed written = IsShort keys consumed written
 
 abbrev pub Ends : KeyLog → Option (List ℕ) → Option (List ℕ) → Option (List ℕ) → Option (List ℕ) → End → Type 0
 Ends keys left left' held held' end = Ran left left' held held' (EndIs keys left' end)

@@ -10,3 +10,6 @@ mod texts;
 mod turn;
 
 pub use program::run;
+
+#[cfg(test)]
+mod tests;

@@ -3,7 +3,7 @@
 ghost use Rattle.std.specs.Prelude.{◌≡◌, ◌≢◌, ◌↔◌, ◌⊎◌, ◌≤◌, ◌∷◌, [], ℕ, List, map, codes, string_bytes, IsTrue};
 ghost use Rattle.std.specs.Io.KnownBytes.{Consumes};
 ghost use Rattle.kl_io.specs.Causes.{Rose};
-ghost use Rattle.kl_console.specs.Run.{Costs, IsBroken, IsCutOff, IsDone, IsFaulty, IsStatus, Ran};
+ghost use Rattle.kl_console.specs.Run.{Costs, IsBroken, IsCutOff, IsDone, IsFaulty, IsShort, IsStatus, Ran};
 ghost use Rattle.kl_console.specs.Turns.{status_of};
 
 use crate::turn::{End, play};
@@ -41,7 +41,7 @@ impl End {
 /// Does what the words of the command line say, and answers the number with which the program ends.
 ///
 /// The words are `run`. The script is read line by line; each line is executed once its newline was read, and what it
-/// prints is written at once. A script has at most three lines, in this order: an `add`, a `begin` of the agent that was
+/// prints is written before the next line is read. A script has at most three lines, in this order: an `add`, a `begin` of the agent that was
 /// added, and a `reply`, which is appraised. A refused `add` ends the session, and so does a `reply`.
 ///
 /// | number | where |
@@ -83,20 +83,20 @@ pub fn run<S: Source, K: Sink, Y: Keys, L: Ledger>(
         (record { told = Y.told keys.old; before = Y.fault_count keys.old; after = Y.fault_count keys.new })
         (S.left script.new)) }
     ensures write_cause { result ≡ 5 → Rose (K.fault_count out.old) (K.fault_count out.new) }
-    // 70: memory ran out; what was written is the beginning of what was to be printed.
+    // 70: memory ran out; what was written is the beginning of the texts of lines that were read.
     ensures memory { result ≡ 70
-        → Ran (S.left script.old) (S.left script.new) (K.held out.old) (K.held out.new) (IsCutOff
-        (record { told = Y.told keys.old; before = Y.fault_count keys.old; after = Y.fault_count keys.new })
-        (S.left script.new)) }
+        → Ran (S.left script.old) (S.left script.new) (K.held out.old) (K.held out.new) (IsShort
+        (record { told = Y.told keys.old; before = Y.fault_count keys.old; after = Y.fault_count keys.new })) }
     // There are no other numbers.
     ensures statuses { IsStatus result }
     // At 2 nothing was read, written, asked or counted.
-    ensures unread { result ≡ 2 → (S.left script.new ≡ S.left script.old) × (S.fault_count script.new ≡ S.fault_count script.old) }
-    ensures unwritten { result ≡ 2 → (K.held out.new ≡ K.held out.old) × (K.fault_count out.new ≡ K.fault_count out.old) }
-    ensures unasked { result ≡ 2 → (Y.fault_count keys.new ≡ Y.fault_count keys.old) × (steps.new ≡ steps.old) }
-    // At most one step is taken for each entry of the reply's list.
+    ensures unread { result ≡ 2 → script.new ≡ script.old }
+    ensures unwritten { result ≡ 2 → out.new ≡ out.old }
+    ensures unasked { result ≡ 2 → (keys.new ≡ keys.old) × (steps.new ≡ steps.old) }
+    // A step is taken only once the reply that was awaited was read, and at most one for each entry of its list.
     ensures cost { (consumed : List ℕ) × Consumes (S.left script.old) (S.left script.new) consumed
-        × Costs steps.old steps.new consumed }
+        × Costs (record { told = Y.told keys.old; before = Y.fault_count keys.old; after = Y.fault_count keys.new })
+        steps.old steps.new consumed }
     ensures told { Y.told keys.new ≡ Y.told keys.old }
     // No count of faults falls.
     ensures script_count { S.fault_count script.old ≤ S.fault_count script.new }

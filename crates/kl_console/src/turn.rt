@@ -199,7 +199,8 @@ pub fn play<S: Source, K: Sink, Y: Keys, L: Ledger>(
     })
         (S.left script.old) (S.left script.new) (K.held out.old) (K.held out.new) result }
     ensures cost { (consumed : List ℕ) × Consumes (S.left script.old) (S.left script.new) consumed
-        × Costs steps.old steps.new consumed }
+        × Costs (record { told = Y.told keys.old; before = Y.fault_count keys.old; after = Y.fault_count keys.new })
+        steps.old steps.new consumed }
     ensures read { result ≡ End.ReadFault → Rose (S.fault_count script.old) (S.fault_count script.new) }
     ensures write { result ≡ End.WriteFault → Rose (K.fault_count out.old) (K.fault_count out.new) }
     ensures told { Y.told keys.new ≡ Y.told keys.old }

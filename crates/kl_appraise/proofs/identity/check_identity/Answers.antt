@@ -1,5 +1,5 @@
 -- The cause is that of the refusal.
-use Rattle.std.proofs.Common.{◌≡◌, Bool, Option, sym, subst}
+use Rattle.std.proofs.Common.{Bool, Option, sym, subst}
 use Rattle.kl_states.specs.declared.verdict.InvalidCause.{InvalidCause}
 use Rattle.kl_appraise.specs.QuoteRules.{IsAnswered, FindsCause}
 use Rattle.kl_appraise.specs.Checked.{identity_check}

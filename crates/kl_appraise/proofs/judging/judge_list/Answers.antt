@@ -1,5 +1,5 @@
 -- Which of the rules beyond the quote is the first.
-use Rattle.std.proofs.Common.{◌≡◌, ℕ, ◌<◌, ◌≤◌, List, length, Option, None, Some, sym, ap, ◌∙◌, subst, arith}
+use Rattle.std.proofs.Common.{ℕ, ◌<◌, ◌≤◌, List, length, None, Some, sym, ap, subst, arith}
 use Rattle.kl_entry.specs.Entries.{EntryFields}
 use Rattle.kl_entry.specs.Lines.{AreEntries}
 use Rattle.kl_pcr.specs.Values.{value_at}

@@ -1,10 +1,9 @@
 -- Which of the nine rules is the first that applies, and what the key object was asked.
-use Rattle.std.proofs.Common.{◌≡◌, ◌≢◌, ℕ, List, Bool, true, false, Err, refl, sym, ap, ◌∙◌, subst, rules}
+use Rattle.std.proofs.Common.{◌≡◌, ◌≢◌, ℕ, List, true, false, Err, refl, sym, ap, subst, rules}
 use Rattle.kl_bank.specs.Banks.{name_of}
-use Rattle.kl_attest.specs.Grammar.{Quoted, Spells}
+use Rattle.kl_attest.specs.Grammar.{Spells}
 use Rattle.kl_attest.specs.FirstFault.{IsFirstFault}
 use Rattle.kl_attest.specs.Views.{view}
-use Rattle.kl_keys.specs.Relations.{Answers}
 use Rattle.kl_quote.specs.QuoteText.{IsQuoteText, IsFormFault}
 use Rattle.kl_appraise.specs.declared.quoted.Checked.{Checked}
 use Rattle.kl_appraise.specs.Evidence.{Attests, HasValues}

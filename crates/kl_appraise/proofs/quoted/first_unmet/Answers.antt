@@ -1,8 +1,7 @@
 -- Which of the rules on what was signed is the first that is not met.
-use Rattle.std.proofs.Common.{◌≡◌, ◌≢◌, ℕ, ◌*◌, length, count_ones, sym, ap, ◌∙◌, rules}
+use Rattle.std.proofs.Common.{◌≡◌, ◌≢◌, ℕ, ◌*◌, count_ones, sym, ap, ◌∙◌, rules}
 use Rattle.std.proofs.lemmas.Bool.{false≢true}
 use Rattle.sha2.specs.Sha256.{sha256}
-use Rattle.kl_bank.specs.Banks.{size_of}
 use Rattle.kl_attest.specs.Views.{view}
 use Rattle.kl_pcr.specs.Values.{binding_of}
 use Rattle.kl_appraise.specs.Checked.{check_for}

@@ -1,5 +1,5 @@
 -- The value is that of the entries so far, of which no beginning replays to the quoted one.
-use Rattle.std.proofs.Common.{◌≡◌, ◌+◌, ◌≤◌, length, take}
+use Rattle.std.proofs.Common.{◌≡◌, ◌+◌, length, take}
 use Rattle.kl_bank.specs.Banks.{size_of}
 use Rattle.kl_pcr.specs.Replay.{replay_of}
 use Rattle.kl_policy.specs.Policy.{IsFirstBad}

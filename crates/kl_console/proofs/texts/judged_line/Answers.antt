@@ -1,4 +1,4 @@
-use Rattle.std.proofs.Common.{◌≡◌, string_bytes, List, ℕ, ◌++◌, append_assoc, codes, decimal, sym, ◌∙◌}
+use Rattle.std.proofs.Common.{◌≡◌, string_bytes, ℕ, ◌++◌, append_assoc, codes, decimal, sym, ◌∙◌}
 use Rattle.std.proofs.lemmas.Result.{IfOk-weaker}
 use Rattle.kl_states.specs.declared.verdict.Verdict.{Verdict}
 use Rattle.kl_states.specs.Texts.{verdict_text}

@@ -1,4 +1,4 @@
-use Rattle.std.proofs.Common.{ℕ, List, refl, sym, subst, ◌∙◌, ◌≡◌, ◌<◌, arith, rules}
+use Rattle.std.proofs.Common.{ℕ, List, refl, sym, subst, ◌∙◌, arith}
 use Rattle.kl_console.specs.Session.{Empty}
 use Rattle.kl_console.proofs.Playing.{Played, log, played_start, turn_after, end_after, ends_at_once, turn_ranks}
 use Rattle.kl_console.proofs.turn.play.Goals as goal

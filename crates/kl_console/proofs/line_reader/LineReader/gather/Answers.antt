@@ -1,5 +1,5 @@
-use Rattle.std.proofs.Common.{◌≡◌, ◌++◌, [], ◌≤◌, ℕ, List, Bool, true, false, length, ap, ◌∙◌, arith}
-use Rattle.kl_console.specs.Lines.{HasNoNewline, IsLine, line_limit, held_bytes}
+use Rattle.std.proofs.Common.{◌≡◌, false, length, ap, arith}
+use Rattle.kl_console.specs.Lines.{IsLine}
 use Rattle.kl_console.proofs.Turns.{gathers_on}
 use Rattle.kl_console.proofs.line_reader.LineReader.gather.Goals as goal
 

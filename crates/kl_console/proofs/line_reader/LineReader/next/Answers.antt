@@ -1,6 +1,4 @@
-use Rattle.std.proofs.Common.{◌≡◌, ◌++◌, List, ℕ, ap, sym}
-use Rattle.std.specs.Io.KnownBytes.{Consumes}
-use Rattle.kl_console.specs.Lines.{ReadsLine}
+use Rattle.std.proofs.Common.{ap}
 use Rattle.kl_console.proofs.Turns.{reads_primed}
 use Rattle.kl_console.proofs.line_reader.LineReader.next.Goals as goal
 

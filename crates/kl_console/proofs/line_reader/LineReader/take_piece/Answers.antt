@@ -1,6 +1,6 @@
-use Rattle.std.proofs.Common.{◌≡◌, ◌≢◌, ◌++◌, ◌∷◌, [], ◌-◌, ◌+◌, ◌<◌, ◌≤◌, ℕ, List, take, drop, length, length-take, ap, ◌∙◌, arith, rules}
+use Rattle.std.proofs.Common.{◌≡◌, ◌≢◌, ◌-◌, ◌+◌, ◌<◌, drop, length-take, ap, arith}
 use Rattle.std.proofs.lemmas.List.Elements.{All-append}
-use Rattle.kl_console.specs.Lines.{HasNoNewline, held_bytes}
+use Rattle.kl_console.specs.Lines.{HasNoNewline}
 use Rattle.kl_console.proofs.Pieces.{rest_of_part, newline_moved}
 use Rattle.kl_console.proofs.line_reader.LineReader.take_piece.Goals as goal
 

@@ -1,57 +1,132 @@
 #!/usr/bin/env python3
-"""Checks that every `crate::function` with its clauses that docs/GUARANTEES.md names stands in the sources.
+"""Checks docs/GUARANTEES.md against the sources, in both directions.
 
-A row names a function as `crate::function` or `crate::Type::method`, and clauses as `clause` in the same row's last column;
-`the clause` is one that has no name.
+Each `crate::function`, `crate::Type::method` or `crate::Trait::method` that a row names has each clause that the row's last
+column names; `the clause` is one without a name. And each function that a crate exports, with each of its named clauses,
+stands in some row, so that no promise is left out.
 """
 import pathlib
 import re
 import sys
 
 ROOT = pathlib.Path(__file__).resolve().parent.parent
-FUNCTION = re.compile(r"^\s*(?:pub(?:\([a-z]+\))? )?(?:const )?fn (\w+)")
+CRATES = ROOT / "crates"
+BLOCK = re.compile(r"^(?:pub )?(?:unsafe )?(impl|trait)\b(.*)$")
+FUNCTION = re.compile(r"^( *)(pub(?:\([a-z]+\))? )?(?:const )?fn (\w+)")
+CLAUSE = re.compile(r"^\s*(ensures|requires)\*? (?:(\w+) )?\{")
+EXPORT = re.compile(r"pub use \w+::(?:\{([^}]*)\}|(\w+));")
 
 
-def clauses_by_function(crate):
-    """From each function's name to the names of its clauses, over all files of the crate."""
+def without_generics(text):
+    """The text without its outermost parts in angle brackets."""
+    kept, depth = [], 0
+    for before, char in zip(" " + text, text):
+        if char == "<":
+            depth += 1
+        elif char == ">" and before != "-":
+            depth -= 1
+        elif depth == 0:
+            kept.append(char)
+    return "".join(kept)
+
+
+def owner_of(kind, rest):
+    """The type or trait whose functions a block has, and the trait that it implements, if any."""
+    words = without_generics(rest).split("{")[0].split(":")[0] if kind == "trait" else without_generics(rest).split("{")[0]
+    words = words.split(" where ")[0].split()
+    if "for" in words:
+        at = words.index("for")
+        return words[at + 1].split("::")[-1], words[at - 1].split("::")[-1]
+    return words[0], None
+
+
+class Function:
+    def __init__(self, public):
+        self.public = public
+        self.promises = set()
+        self.conditions = set()
+
+
+def functions_of(crate):
+    """From the path of each function of the crate to what it states; a type's or a trait's as `Type::method`."""
     found = {}
-    for path in sorted((ROOT / "crates" / crate / "src").rglob("*.rt")):
-        current = None
+    for path in sorted((CRATES / crate / "src").rglob("*.rt")):
+        if path.name == "tests.rt":
+            continue
+        owner, kind, implemented, current = None, None, None, None
         for line in path.read_text().splitlines():
-            match = FUNCTION.match(line)
-            if match:
-                current = found.setdefault(match.group(1), set())
-            clause = re.match(r"\s*(?:ensures|requires)\*? (\w+)? ?\{", line)
+            block = BLOCK.match(line)
+            if block:
+                kind = block.group(1)
+                owner, implemented = owner_of(kind, block.group(2))
+            elif line.startswith("}"):
+                owner, kind, implemented = None, None, None
+            function = FUNCTION.match(line)
+            if function:
+                inside = owner is not None and function.group(1)
+                public = function.group(2) == "pub " or (inside and (kind == "trait" or implemented is not None))
+                name = f"{owner}::{function.group(3)}" if inside else function.group(3)
+                current = found.setdefault(name, Function(public))
+                current.implements = implemented if inside else None
+            clause = CLAUSE.match(line)
             if clause and current is not None:
-                current.add(clause.group(1) or "the clause")
+                wanted = current.promises if clause.group(1) == "ensures" else current.conditions
+                wanted.add(clause.group(2) or "the clause")
     return found
 
 
-def main():
-    wrong = []
-    known = {}
-    text = (ROOT / "docs" / "GUARANTEES.md").read_text()
+def exports_of(crate):
+    """The names that a crate exports."""
+    root = CRATES / crate / "src" / "lib.rt"
+    names = set()
+    if root.exists():
+        for several, one in EXPORT.findall(root.read_text()):
+            names |= {name.strip() for name in (several or one).split(",") if name.strip()}
+    return names
+
+
+def rows_of(text):
+    """The rows of the document: a line's number, the names of its first column, and the clauses of its last."""
     for number, line in enumerate(text.splitlines(), 1):
-        if not line.startswith("| `"):
-            continue
-        cells = [cell.strip() for cell in line.strip("|").split("|")]
-        names = re.findall(r"`([\w:]+)`", cells[0])
-        clauses = re.findall(r"`([\w ]+)`", cells[-1])
+        if line.startswith("| `"):
+            cells = [cell.strip() for cell in line.strip("|").split("|")]
+            yield number, re.findall(r"`([\w:]+)`", cells[0]), re.findall(r"`([\w ]+)`", cells[-1])
+
+
+def faults_of(text):
+    """What the document says that is not there, and what it leaves out."""
+    crates = {crate: functions_of(crate) for crate in sorted(p.name for p in CRATES.iterdir() if (p / "src").is_dir())}
+    named = {}
+    for number, names, clauses in rows_of(text):
         for name in names:
-            crate, *path = name.split("::")
-            if not (ROOT / "crates" / crate).is_dir() or not path:
-                wrong.append(f"line {number}: there is no crate {crate} with {name}")
+            crate, _, path = name.partition("::")
+            function = crates.get(crate, {}).get(path)
+            if function is None:
+                yield f"line {number}: there is no {name}"
                 continue
-            functions = known.setdefault(crate, clauses_by_function(crate))
-            if path[-1] not in functions:
-                wrong.append(f"line {number}: {crate} has no function {path[-1]}")
-                continue
+            named.setdefault(name, set()).update(clauses)
             for clause in clauses:
-                if clause not in functions[path[-1]]:
-                    wrong.append(f"line {number}: {name} has no clause {clause}")
-    for fault in wrong:
+                if clause not in function.promises | function.conditions:
+                    yield f"line {number}: {name} has no clause {clause}"
+    for crate, functions in crates.items():
+        exported = exports_of(crate)
+        for path, function in functions.items():
+            if not function.public or path.split("::")[0] not in exported or not function.promises:
+                continue
+            name = f"{crate}::{path}"
+            if name not in named:
+                yield f"{name} is exported, and no row names it: {', '.join(sorted(function.promises))}"
+                continue
+            left = function.promises - named[name]
+            if left:
+                yield f"{name}: no row names its {', '.join(sorted(left))}"
+
+
+def main():
+    faults = list(faults_of((ROOT / "docs" / "GUARANTEES.md").read_text()))
+    for fault in faults:
         print(f"docs/GUARANTEES.md: {fault}")
-    return 1 if wrong else 0
+    return 1 if faults else 0
 
 
 if __name__ == "__main__":

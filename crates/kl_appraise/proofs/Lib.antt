@@ -2,3 +2,4 @@ pub mod QuoteFacts
 pub mod ListFacts
 pub mod WalkFacts
 pub mod GenuineFacts
+pub mod OneOutcome

@@ -28,7 +28,7 @@ use Rattle.kl_appraise.proofs.QuoteFacts.{values_unique}
 
 -- ---- A list text spells one list of entries.
 
-entries_same : (lines : List (List ℕ)) (xs ys : List EntryFields) → AllZip Spells lines xs → AllZip Spells lines ys → xs ≡ ys
+pub entries_same : (lines : List (List ℕ)) (xs ys : List EntryFields) → AllZip Spells lines xs → AllZip Spells lines ys → xs ≡ ys
 entries_same [] [] [] h k = refl
 entries_same [] [] (y ∷ ys) h k = absurd k
 entries_same [] (x ∷ xs) ys h k = absurd h

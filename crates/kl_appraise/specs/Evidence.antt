@@ -14,6 +14,10 @@ pub record Check : Type 0 where
   pub evidence : Evidence
   pub signed : Bool
 
+-- the same under another answer
+abbrev pub with_answer : Check → Bool → Check
+with_answer k signed = record { bank = k.bank; mask = k.mask; nonce = k.nonce; evidence = k.evidence; signed = signed }
+
 -- the attestation that the first part of a quote text spells
 abbrev pub Attests : List ℕ → Quoted → Type 0
 Attests quote t = (attest : List ℕ) × (signature : List ℕ) × (values : List ℕ) × IsQuoteText quote attest signature values × Spells attest t

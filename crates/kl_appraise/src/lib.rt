@@ -13,10 +13,12 @@ mod sharing;
 mod terms;
 #[cfg(test)]
 mod tests;
+mod unique;
 mod whole;
 
 pub use fault::{AppraiseError, TermsFault};
 pub use identity::check_identity;
 pub use judged::{Boot, Judged};
 pub use terms::Terms;
+pub use unique::one_verdict;
 pub use whole::appraise_whole;

@@ -1,3 +1,4 @@
 pub mod Colons
 pub mod Encoding
 pub mod Splitting
+pub mod OneForm

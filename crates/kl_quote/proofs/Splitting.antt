@@ -14,7 +14,7 @@ use Rattle.kl_quote.proofs.Encoding.{colons-base64, base64_unique}
 abbrev after_r : List ℕ → List ℕ → List ℕ → List ℕ
 after_r first second third = first ++ (58 ∷ (second ++ (58 ∷ third)))
 
-grouped : (a b c : List ℕ) → text_of_parts a b c ≡ 114 ∷ after_r a b c
+pub grouped : (a b c : List ℕ) → text_of_parts a b c ≡ 114 ∷ after_r a b c
 grouped a b c = simp append_assoc
 
 pub parts_unique : (text a b c d e f : List ℕ) → AreParts text a b c → AreParts text d e f → (a ≡ d) × (b ≡ e) × (c ≡ f)

@@ -1,7 +1,5 @@
 -- A case has one outcome at most: of each rule what it names is one, and the first rule that applies is one.
 use Rattle.std.proofs.Common.{◌≡◌, ◌≢◌, ℕ, Bool, true, false, ◌+◌, ◌<◌, ◌≤◌, List, [], ◌∷◌, ◌++◌, length, take, get_or, Option, Some, None, IsSomeAnd, All, refl, sym, ap, ◌∙◌, subst, inl, inr, arith}
-use Rattle.std.proofs.Math.ListN.{get_or-append}
-use Rattle.std.proofs.Math.Seq.{get_or-append_seam}
 use Rattle.std.proofs.lemmas.Bool.{cases_lt, false≢true}
 use Rattle.std.proofs.lemmas.List.{get_or-take, length-take}
 use Rattle.std.proofs.lemmas.Option.{slice_get_within, get_or_from_slice_get}
@@ -12,6 +10,7 @@ use Rattle.kl_attest.proofs.FirstFaults.{first_fault-unique}
 use Rattle.kl_entry.specs.declared.fault.LineFault.{LineFault}
 use Rattle.kl_entry.specs.Entries.{EntryFields}
 use Rattle.kl_entry.specs.Lines.{lines_of, Spells, IsLineFault}
+use Rattle.kl_entry.proofs.FirstFailing.{one_item, one_place}
 use Rattle.kl_entry.proofs.Spelling.{fault_spells_none, one_fault}
 use Rattle.kl_keys.specs.Relations.{Relations}
 use Rattle.kl_pcr.specs.Statics.{IsWrong, IsFirstWrong}
@@ -123,47 +122,31 @@ one_pcr c x y (v, n, has, wrong, is) (w, m, also, first, same) =
         let down : m ≤ s.pcr = subst (λ (x : Static). IsWrong c.terms.bank c.terms.mask v x → m ≤ x.pcr) there (lowest k s within) bad in
         omega (arith, is_n, is_m, up, down)
 
--- the line that one finds is not before that which another finds
-not_earlier : (text : List ℕ) (p q : ℕ) (f g : LineFault) → IsFirstBadLine text p f → IsFirstBadLine text q g → ¬ (p < q)
-not_earlier text p q f g first other below =
-    let within : p < length other.before = omega (arith, other.counted, below) in
-    let d = first.line in
-    let there : get_or other.before p d ≡ first.line =
-        sym (get_or-append other.before (other.line ∷ other.after) d p within)
-        ∙ ap (λ (ls : List (List ℕ)). get_or ls p d) (sym other.cut ∙ first.cut)
-        ∙ ap (λ (n : ℕ). get_or (first.before ++ first.line ∷ first.after) n d) (sym first.counted)
-        ∙ get_or-append_seam first.before first.line first.after d in
-    let (e, spelled) = other.good p d within in
-    fault_spells_none first.line f e first.bad (subst (λ (l : List ℕ). Spells l e) there spelled)
+-- a line that spells an entry
+IsGood : List ℕ → Type 0
+IsGood line = (e : EntryFields) × Spells line e
 
--- at one place stands one line
-line_at : (text : List ℕ) (p : ℕ) (f : LineFault) (d : List ℕ) (bad : IsFirstBadLine text p f) → get_or (lines_of text) p d ≡ bad.line
-line_at text p f d bad =
-    ap (λ (ls : List (List ℕ)). get_or ls p d) bad.cut
-    ∙ ap (λ (n : ℕ). get_or (bad.before ++ bad.line ∷ bad.after) n d) (sym bad.counted)
-    ∙ get_or-append_seam bad.before bad.line bad.after d
+spells_none : (line : List ℕ) (f : LineFault) → IsLineFault line f → ¬ (IsGood line)
+unfolding IsGood
+spells_none line f fault (e, spelled) = fault_spells_none line f e fault spelled
 
-fault_same : (text : List ℕ) (p q : ℕ) (f g : LineFault) → p ≡ q → IsFirstBadLine text p f → IsFirstBadLine text q g → f ≡ g
-fault_same text p q f g same first other =
-    let line : other.line ≡ first.line =
-        sym (line_at text q g [] other) ∙ ap (λ (n : ℕ). get_or (lines_of text) n []) (sym same) ∙ line_at text p f [] first in
-    one_fault first.line f g first.bad (subst (λ (l : List ℕ). IsLineFault l g) line other.bad)
-
-place_same : (text : List ℕ) (p q : ℕ) (f g : LineFault) → IsFirstBadLine text p f → IsFirstBadLine text q g → p ≡ q
-place_same text p q f g first other = elim (cases_lt p q) [
-  | inl below ↦ absurd (not_earlier text p q f g first other below)
-  | inr reached ↦ elim (cases_lt q p) [
-    | inl above ↦ absurd (not_earlier text q p g f other first above)
-    | inr also ↦ omega (arith, reached, also)
-  ]
-]
+one_bad_line : (text : List ℕ) (p q : ℕ) (f g : LineFault) → IsFirstBadLine text p f → IsFirstBadLine text q g → (p ≡ q) × (f ≡ g)
+unfolding IsGood
+one_bad_line text p q f g first other =
+    let both = sym first.cut ∙ other.cut in
+    let place = one_place IsGood first.before first.after other.before other.after first.line other.line both first.good other.good
+        (spells_none first.line f first.bad) (spells_none other.line g other.bad) in
+    let line = one_item first.before first.after other.before other.after first.line other.line both place in
+    (
+      sym first.counted ∙ place ∙ other.counted,
+      one_fault other.line f g (subst (λ (l : List ℕ). IsLineFault l f) line first.bad) other.bad,
+    )
 
 one_line : (c : Case) → IsOne (ByLine c)
 one_line c x y (p, f, bad, is) (q, g, also, same) =
-    let place = place_same c.evidence.list p q f g bad also in
-    let fault = fault_same c.evidence.list p q f g place bad also in
-    is ∙ ap (λ (n : ℕ). Judged (Failed (Line (c.evidence.start + n) (line_cause f)))) place
-    ∙ ap (λ (e : LineFault). Judged (Failed (Line (c.evidence.start + q) (line_cause e)))) fault ∙ sym same
+    let one = one_bad_line c.evidence.list p q f g bad also in
+    is ∙ ap (λ (n : ℕ). Judged (Failed (Line (c.evidence.start + n) (line_cause f)))) one.0
+    ∙ ap (λ (e : LineFault). Judged (Failed (Line (c.evidence.start + q) (line_cause e)))) one.1 ∙ sym same
 
 one_full : (c : Case) → IsOne (ByListFull c)
 one_full c x y (_, is) (_, also) = is ∙ sym also

@@ -5,3 +5,4 @@ pub mod Printing
 pub mod Following
 pub mod Playing
 pub mod Words
+pub mod OneOutput

@@ -1,6 +1,8 @@
 -- What a run reads and writes, by how it ends.
-use Rattle.std.specs.Prelude.{◌≡◌, ◌⊎◌, ℕ, ◌+◌, ◌≤◌, List, ◌∷◌, ◌++◌, length, Option}
+use Rattle.std.specs.Prelude.{◌≡◌, ◌⊎◌, ℕ, ◌+◌, ◌≤◌, List, ◌∷◌, ◌++◌, length, Option, Some}
 use Rattle.std.specs.Io.KnownBytes.{Appends, Consumes, IsAtEnd}
+use Rattle.kl_keys.specs.Causes.{Rose}
+use Rattle.kl_keys.specs.Relations.{Relations}
 use Rattle.kl_entry.specs.Lines.{lines_of}
 use Rattle.kl_script.specs.Commands.{ReplyFields, reply, Spells}
 use Rattle.kl_console.specs.Lines.{IsLine, ended}
@@ -59,3 +61,9 @@ Costs keys before after consumed =
 -- the numbers with which a run ends
 abbrev pub IsStatus : ℕ → Type 0
 IsStatus n = (n ≡ 0) ⊎ ((n ≡ 2) ⊎ ((n ≡ 3) ⊎ ((n ≡ 4) ⊎ ((n ≡ 5) ⊎ (n ≡ 70)))))
+
+-- the key object tells its answers, and met no fault
+pub record IsSteady (keys : KeyLog) : Type 0 where
+  pub relations : Relations
+  pub told : keys.told ≡ Some relations
+  pub faultless : ¬ (Rose keys.before keys.after)

@@ -8,8 +8,10 @@ mod program;
 mod session;
 mod texts;
 mod turn;
+mod unique;
 
 pub use program::run;
+pub use unique::one_output;
 
 #[cfg(test)]
 mod tests;

@@ -3,3 +3,4 @@ pub mod Cuts
 pub mod Hexadecimal
 pub mod Parts
 pub mod Spelling
+pub mod FirstFailing

@@ -140,6 +140,9 @@ pub asked_at : (c : Case) (b : Bank) (m : ℕ) → b ≡ c.terms.bank → m ≡ 
 asked_at c b m bank mask asked =
     subst (λ (x : ℕ). ¬ (IsUnasked (check_at c c.terms.bank x))) mask (subst (λ (x : Bank). ¬ (IsUnasked (check_at c x m))) bank asked)
 
+pub unasked_at : {K : Type 0} (old new : K) (c : Case) (b : Bank) (m : ℕ) → b ≡ c.terms.bank → m ≡ c.terms.mask → (new ≡ old) ⊎ (¬ (IsUnasked (check_at c b m))) → (new ≡ old) ⊎ (¬ (IsUnasked (check_of c)))
+unasked_at old new c b m bank mask left = elim left [ inl same ↦ inl same | inr asked ↦ inr (asked_at c b m bank mask asked) ]
+
 -- ---- The cause that the check of an identity finds
 
 pub identity_found : (told : Option Relations) (ak nonce : List ℕ) (evidence : Evidence) (checked : Checked) → ChecksAs (identity_check nonce evidence) checked

@@ -122,7 +122,7 @@ ByLine c o = (place : ℕ) × (f : LineFault) × IsFirstBadLine c.evidence.list 
 abbrev pub ByListFull : Case → Outcome → Type 0
 ByListFull c o = (list_limit < c.evidence.start + length (lines_of c.evidence.list)) × (o ≡ Judged (Failed ListFull))
 
--- 15. No beginning of the list replays to the quoted PCR 10.
+-- 15. No beginning of the list, of at least one entry, replays to the quoted PCR 10.
 abbrev pub ByUnmatched : Case → Outcome → Type 0
 ByUnmatched c o = ((whole : List EntryFields) (cut : ℕ) → WholeList c whole → ¬ (IsCut c whole cut)) × (o ≡ Judged (Failed Unmatched))
 

@@ -1,7 +1,6 @@
 //! Why terms are refused, and why an appraisal gives no verdict.
 
 use kl_keys::KeysFault;
-use std::alloc::{AllocError, AllocFailed};
 
 /// Why no terms were made.
 #[derive(Clone, Copy, Debug, PartialEq, Eq)]

@@ -1,6 +1,6 @@
 //! The check that a quote is of a key that is bound to a machine.
 
-ghost use Rattle.std.specs.Prelude.{◌≡◌, Bool, IfOk, IsErrOf, false};
+ghost use Rattle.std.specs.Prelude.{◌≡◌, ◌⊎◌, Bool, IfOk, IsErrOf, false};
 ghost use Rattle.kl_keys.specs.Causes.{HasCause};
 ghost use Rattle.kl_appraise.specs.Checked.{cause_in, identity_check};
 ghost use Rattle.kl_appraise.specs.QuoteRules.{FindsCause, IsAnswered, IsUnasked};
@@ -36,6 +36,8 @@ pub fn check_identity<Y: Keys>(
         × FindsCause (identity_check nonce.now evidence.now signed) found) }
     // The key object is blamed only where it was to be asked.
     ensures asked { IsErrOf result AppraiseError.Keys → ¬ (IsUnasked (identity_check nonce.now evidence.now false)) }
+    // The key object is left as it was, unless it was to be asked.
+    ensures unasked { (keys.new ≡ keys.old) ⊎ (¬ (IsUnasked (identity_check nonce.now evidence.now false))) }
     ensures told { Y.told keys.new ≡ Y.told keys.old }
     // The count of faults never falls, and it rose where the key object is blamed.
     ensures cause { HasCause (Y.fault_count keys.old) (Y.fault_count keys.new) (IsErrOf result AppraiseError.Keys) }

@@ -1,6 +1,6 @@
 //! The rules on the quote alone.
 
-ghost use Rattle.std.specs.Prelude.{◌≡◌, ◌*◌, ◌↔◌, ℕ, Bool, List, length, count_ones, IfOk, IfSome, IfNone, IsErrOf, IsTrue, false};
+ghost use Rattle.std.specs.Prelude.{◌≡◌, ◌⊎◌, ◌*◌, ◌↔◌, Bool, length, count_ones, IfOk, IfSome, IfNone, IsErrOf, IsTrue, false};
 ghost use Rattle.kl_bank.specs.Banks.{alg_of, size_of};
 ghost use Rattle.kl_attest.specs.Pcrs.{OneSet};
 ghost use Rattle.kl_attest.specs.Views.{view};
@@ -65,6 +65,7 @@ pub fn check_quote<Y: Keys>(
     ensures rules { IfOk result (ChecksAs (check_for wanted.now evidence.now)) }
     ensures answered { IfOk result (λ c. IsAnswered (Y.told keys.old) wanted.now.ak.now (check_for wanted.now evidence.now (answer_of c))) }
     ensures asked { IsErrOf result AppraiseError.Keys → ¬ (IsUnasked (check_for wanted.now evidence.now false)) }
+    ensures unasked { (keys.new ≡ keys.old) ⊎ (¬ (IsUnasked (check_for wanted.now evidence.now false))) }
     ensures told { Y.told keys.new ≡ Y.told keys.old }
     ensures cause { HasCause (Y.fault_count keys.old) (Y.fault_count keys.new) (IsErrOf result AppraiseError.Keys) }
 {

@@ -1,6 +1,6 @@
 //! What an agent is appraised under.
 
-ghost use Rattle.std.specs.Prelude.{◌≡◌, ◌≢◌, IfOk, IsErrOf, IsTrue, ◌↔◌, string_bytes};
+ghost use Rattle.std.specs.Prelude.{◌≡◌, IfOk, IsErrOf, IsTrue, ◌↔◌, string_bytes};
 ghost use Rattle.kl_pcr.specs.Statics.{AreStatics};
 ghost use Rattle.kl_appraise.specs.Terms.{AreTerms, IsMask};
 

@@ -1,6 +1,6 @@
 //! The appraisal of a measurement list from its begin on.
 
-ghost use Rattle.std.specs.Prelude.{◌≡◌, ◌+◌, ◌≤◌, ℕ, IfOk, IsErrOf, length, false};
+ghost use Rattle.std.specs.Prelude.{◌≡◌, ◌⊎◌, ◌+◌, ◌≤◌, ℕ, IfOk, IsErrOf, length, false};
 ghost use Rattle.kl_entry.specs.Lines.{lines_of};
 ghost use Rattle.kl_keys.specs.Causes.{HasCause};
 ghost use Rattle.kl_entry.specs.declared.fault.LineFault.{LineFault};
@@ -59,6 +59,9 @@ pub fn appraise_whole<Y: Keys, L: Ledger>(
     // The key object is blamed only where it is asked: none of rules 1 to 3 decides.
     ensures asked { IsErrOf result AppraiseError.Keys
         → ¬ (IsUnasked (check_of (whole_case terms.now nonce.now evidence.now false))) }
+    // The key object is left as it was, unless it is asked.
+    ensures unasked { (keys.new ≡ keys.old)
+        ⊎ (¬ (IsUnasked (check_of (whole_case terms.now nonce.now evidence.now false)))) }
     ensures told { Y.told keys.new ≡ Y.told keys.old }
     // The count of faults never falls, and it rose where the key object is blamed.
     ensures cause { HasCause (Y.fault_count keys.old) (Y.fault_count keys.new) (IsErrOf result AppraiseError.Keys) }

@@ -3,7 +3,7 @@ use Rattle.std.proofs.Common.{◌≡◌, ◌≤◌, ◌<◌, ℕ, List, [], ◌�
 use Rattle.kl_keys.specs.Causes.{Rose}
 use Rattle.kl_script.specs.Commands.{CommandFields, ReplyFields, add, begin, reply}
 use Rattle.kl_appraise.specs.Terms.{TermsFields}
-use Rattle.kl_console.specs.Session.{KeyLog, Stage, Empty, Installed, Polled, Over, Adds, IsJudged, Concludes, Obeys, Does, Follows, rank}
+use Rattle.kl_console.specs.Session.{KeyLog, Stage, Empty, Installed, Polled, Over, Adds, IsJudged, Concludes, Obeys, Does, Follows}
 
 -- the second log is over a longer time than the first
 pub record IsWider (inner outer : KeyLog) : Type 0 where
@@ -56,6 +56,13 @@ Follows-more keys stage [] [] last line text next h d = (next, subst (λ (s : St
 Follows-more keys stage [] (t ∷ texts) last line text next h d = absurd h
 Follows-more keys stage (l ∷ lines) [] last line text next h d = absurd h
 Follows-more keys stage (l ∷ lines) (t ∷ texts) last line text next h d = (h.0, h.1, Follows-more keys h.0 lines texts last line text next h.2 d)
+
+-- how many more commands may follow
+abbrev pub rank : Stage → ℕ
+rank Empty = 3
+rank (Installed agent terms) = 2
+rank (Polled agent terms nonce) = 1
+rank Over = 0
 
 -- each command leaves less to come
 pub Obeys-ranks : (keys : KeyLog) (stage : Stage) (c : CommandFields) (next : Stage) (text : List ℕ) → Obeys keys stage c next text → rank next < rank stage

@@ -1,5 +1,5 @@
 -- The turns of a session, one after another.
-use Rattle.std.proofs.Common.{◌≡◌, ◌≤◌, ◌<◌, ◌+◌, ℕ, List, [], ◌∷◌, ◌++◌, Option, Result, Ok, Err, refl, sym, subst, ap, ◌∙◌, inl, inr, arith, append_assoc}
+use Rattle.std.proofs.Common.{◌≡◌, ◌≤◌, ◌<◌, ◌+◌, ℕ, List, [], ◌∷◌, ◌++◌, length, Option, Result, Ok, Err, refl, sym, subst, ap, ◌∙◌, ◌⊎◌, inl, inr, arith, append_assoc}
 use Rattle.std.specs.List.{concat}
 use Rattle.std.specs.Io.KnownBytes.{Appends, Consumes}
 use Rattle.std.proofs.KnownBytes.{Appends-nil, Appends-trans, Consumes-nil, Consumes-trans}
@@ -7,17 +7,19 @@ use Rattle.std.proofs.lemmas.List.{append-nil, length_push}
 use Rattle.std.proofs.lemmas.List.Elements.{All-append, All-cons, All-nil}
 use Rattle.std.proofs.lemmas.List.Folds.{concat-append}
 use Rattle.kl_keys.specs.Relations.{Relations}
+use Rattle.kl_entry.specs.Lines.{lines_of}
+use Rattle.kl_script.specs.Commands.{ReplyFields, reply, Spells}
 use Rattle.kl_console.specs.Lines.{IsLine, ended}
 use Rattle.kl_console.specs.Texts.{fault_text}
-use Rattle.kl_console.specs.Session.{KeyLog, Stage, Empty, Installed, Polled, Over, Does, IsPolled, rank}
+use Rattle.kl_console.specs.Session.{KeyLog, Stage, Empty, Installed, Polled, Over, Does, IsPolled, IsToAsk}
 use Rattle.kl_console.specs.Script.{Session, IsBad, printed, next_number}
 use Rattle.kl_console.specs.Stages.{stage_of}
-use Rattle.kl_console.specs.Run.{Costs, Prints}
-use Rattle.kl_console.specs.Turns.{CanPrint, EndIs, Ends, TurnCosts, TurnIs, Turns}
+use Rattle.kl_console.specs.Run.{Asks, CanPrint, Costs, HasReply, IsPaid, Ran}
+use Rattle.kl_console.specs.Turns.{EndIs, Ends, TurnAsks, TurnCosts, TurnIs, Turns}
 use Rattle.kl_console.specs.declared.session.Stage.{Stage as Kept}
 use Rattle.kl_console.specs.declared.turn.End.{End}
 use Rattle.kl_console.specs.declared.turn.End.TheVariants.{Done, Fault, ReadFault, WriteFault, Memory}
-use Rattle.kl_console.proofs.Following.{IsWider, Does-wider, Does-ranks, Follows-wider, Follows-more}
+use Rattle.kl_console.proofs.Following.{IsWider, Does-wider, Does-ranks, Follows-wider, Follows-more, rank}
 
 ended-more : (lines : List (List ℕ)) (line rest : List ℕ) → ended (lines ++ line ∷ []) ++ rest ≡ ended lines ++ (line ++ 10 ∷ rest)
 ended-more [] line rest = append_assoc line (10 ∷ []) rest
@@ -36,7 +38,7 @@ pub record Played (keys : KeyLog) (left left' held held' : Option (List ℕ)) (s
   pub numbered : number ≡ next_number session
   pub ranked : number + rank stage ≤ 4
   pub spent : 0 < rank stage → steps' ≤ steps
-  pub costs : Costs keys steps steps' consumed
+  pub costs : Costs keys steps steps' consumed (printed session)
 
 pub played_start : (keys : KeyLog) (left held : Option (List ℕ)) (steps : ℕ) → Played keys left left held held steps steps [] Empty 1
 played_start keys left held steps = record {
@@ -55,10 +57,14 @@ played_start keys left held steps = record {
 abbrev wider_session : (inner outer : KeyLog) → IsWider inner outer → Session inner → Session outer
 wider_session inner outer w s = record { lines = s.lines; texts = s.texts; stage = s.stage; each = s.each; follows = Follows-wider inner outer Empty s.lines s.texts s.stage w s.follows }
 
-Costs-wider : (inner outer : KeyLog) (steps steps' : ℕ) (consumed : List ℕ) → IsWider inner outer → Costs inner steps steps' consumed → Costs outer steps steps' consumed
-Costs-wider inner outer steps steps' consumed w costs = elim costs [
+HasReply-wider : (inner outer : KeyLog) (consumed written : List ℕ) (IsSo : Stage → ReplyFields → Type 0) → IsWider inner outer → HasReply inner consumed written IsSo → HasReply outer consumed written IsSo
+HasReply-wider inner outer consumed written IsSo w (s, line, more, later, r, is, whole, spelled, wrote, so) =
+    (wider_session inner outer w s, line, more, later, r, is, whole, spelled, wrote, so)
+
+Costs-wider : (inner outer : KeyLog) (steps steps' : ℕ) (consumed written : List ℕ) → IsWider inner outer → Costs inner steps steps' consumed written → Costs outer steps steps' consumed written
+Costs-wider inner outer steps steps' consumed written w costs = elim costs [
   | inl few ↦ inl few
-  | inr (r, (s, line, more, polled, is, whole, spelled), few) ↦ inr (r, (wider_session inner outer w s, line, more, polled, is, whole, spelled), few)
+  | inr has ↦ inr (HasReply-wider inner outer consumed written (IsPaid steps steps') w has)
 ]
 
 -- the same over a longer time
@@ -74,7 +80,7 @@ Played-wider inner outer left left' held held' steps steps' ahead stage number w
   numbered = p.numbered;
   ranked = p.ranked;
   spent = p.spent;
-  costs = Costs-wider inner outer steps steps' p.consumed w p.costs;
+  costs = Costs-wider inner outer steps steps' p.consumed (printed p.session) w p.costs;
 }
 
 IsPolled-ranked : (stage : Stage) → IsPolled stage → rank stage ≡ 1
@@ -87,22 +93,52 @@ IsPolled-ranked Over h = absurd h
 joined : (lines : List (List ℕ)) (consumed ahead more : List ℕ) → consumed ≡ ended lines ++ ahead → consumed ++ more ≡ ended lines ++ (ahead ++ more)
 joined lines consumed ahead more e = ap (λ (t : List ℕ). t ++ more) e ∙ append_assoc (ended lines) ahead more
 
+-- a reply that was read before more bytes were, and before more was written
+HasReply-on : (keys : KeyLog) (consumed written more text : List ℕ) (IsSo IsSo' : Stage → ReplyFields → Type 0) → ((stage : Stage) (r : ReplyFields) → IsSo stage r → IsSo' stage r)
+    → HasReply keys consumed written IsSo → HasReply keys (consumed ++ more) (written ++ text) IsSo'
+HasReply-on keys consumed written more text IsSo IsSo' to (s, line, rest, later, r, is, whole, spelled, wrote, so) =
+    let start = ended s.lines in (
+      s,
+      line,
+      rest ++ more,
+      later ++ text,
+      r,
+      ap (λ (t : List ℕ). t ++ more) is ∙ append_assoc start (line ++ 10 ∷ rest) more ∙ ap (λ (t : List ℕ). start ++ t) (append_assoc line (10 ∷ rest) more),
+      whole,
+      spelled,
+      ap (λ (t : List ℕ). t ++ text) wrote ∙ append_assoc (printed s) later text,
+      to s.stage r so,
+    )
+
+-- a reply that is read in a turn after others
+HasReply-at : (keys : KeyLog) (s : Session keys) (stage : Stage) (consumed ahead more line rest text : List ℕ) (r : ReplyFields) (IsSo : Stage → ReplyFields → Type 0) → s.stage ≡ stage → consumed ≡ ended s.lines ++ ahead
+    → ahead ++ more ≡ line ++ 10 ∷ rest → IsLine line → Spells line (reply r) → IsSo stage r → HasReply keys (consumed ++ more) (printed s ++ text) IsSo
+HasReply-at keys s stage consumed ahead more line rest text r IsSo at cut is whole spelled so = (
+  s,
+  line,
+  rest,
+  text,
+  r,
+  joined s.lines consumed ahead more cut ∙ ap (λ (t : List ℕ). ended s.lines ++ t) is,
+  whole,
+  spelled,
+  refl,
+  subst (λ (stage : Stage). IsSo stage r) (sym at) so,
+)
+
 -- what was spent so far, and in a turn
-Costs-more : (keys : KeyLog) (steps steps' steps'' : ℕ) (s : Session keys) (consumed ahead more : List ℕ) (stage : Stage) → s.stage ≡ stage → (0 < rank stage → steps' ≤ steps) → Costs keys steps steps' consumed
-    → consumed ≡ ended s.lines ++ ahead → TurnCosts stage (ahead ++ more) steps' steps'' → Costs keys steps steps'' (consumed ++ more)
-Costs-more keys steps steps' steps'' s consumed ahead more stage at spent costs cut turn = elim turn [
+Costs-more : (keys : KeyLog) (steps steps' steps'' : ℕ) (s : Session keys) (consumed ahead more text : List ℕ) (stage : Stage) → s.stage ≡ stage → (0 < rank stage → steps' ≤ steps) → Costs keys steps steps' consumed (printed s)
+    → consumed ≡ ended s.lines ++ ahead → TurnCosts stage (ahead ++ more) steps' steps'' → Costs keys steps steps'' (consumed ++ more) (printed s ++ text)
+Costs-more keys steps steps' steps'' s consumed ahead more text stage at spent costs cut turn = elim turn [
   | inl none ↦ elim costs [
     | inl few ↦ inl (omega arith)
-    | inr (r, (before, line, rest, polled, is, whole, spelled), few) ↦
-        let start = ended before.lines in
-        let on = ap (λ (t : List ℕ). t ++ more) is ∙ append_assoc start (line ++ 10 ∷ rest) more ∙ ap (λ (t : List ℕ). start ++ t) (append_assoc line (10 ∷ rest) more) in
-        inr (r, (before, line, rest ++ more, polled, on, whole, spelled), omega arith)
+    | inr has ↦ inr (HasReply-on keys consumed (printed s) more text (IsPaid steps steps') (IsPaid steps steps'') (λ stage r paid. let few : steps' ≤ steps + length (lines_of r.list) = paid.1 in (paid.0, omega arith)) has)
   ]
   | inr (polled, (line, rest, r, is, whole, spelled, few)) ↦
       let one = IsPolled-ranked stage polled in
       let before : steps' ≤ steps = spent (omega (arith, one)) in
-      let awaits : IsPolled s.stage = subst IsPolled (sym at) polled in
-      inr (r, (s, line, rest, awaits, joined s.lines consumed ahead more cut ∙ ap (λ (t : List ℕ). ended s.lines ++ t) is, whole, spelled), omega arith)
+      let paid : steps'' ≤ steps + length (lines_of r.list) = omega arith in
+      inr (HasReply-at keys s stage consumed ahead more line rest text r (IsPaid steps steps'') at cut is whole spelled (polled, paid))
 ]
 
 -- a turn after others
@@ -116,6 +152,7 @@ played_turn keys left left' left'' held held' held'' steps steps' steps'' ahead 
     let s = p.session in
     let does : Does keys s.stage line (stage_of next) text = subst (λ (stage : Stage). Does keys stage line (stage_of next) text) (sym p.at) t.4.3 in
     let lower = Does-ranks keys stage line (stage_of next) text t.4.3 in
+    let prints : concat s.texts ++ text ≡ concat (s.texts ++ text ∷ []) = ap (λ (u : List ℕ). concat s.texts ++ u) (sym (append-nil text)) ∙ sym (concat-append s.texts (text ∷ [])) in
     record {
       session = record {
         lines = s.lines ++ line ∷ [];
@@ -126,35 +163,14 @@ played_turn keys left left' left'' held held' held'' steps steps' steps'' ahead 
       };
       consumed = p.consumed ++ more;
       reads = Consumes-trans left left' left'' p.consumed more p.reads t.2;
-      writes = subst (Appends held held'') (ap (λ (u : List ℕ). concat s.texts ++ u) (sym (append-nil text)) ∙ sym (concat-append s.texts (text ∷ []))) (Appends-trans held held' held'' (concat s.texts) text p.writes t.3);
+      writes = subst (Appends held held'') prints (Appends-trans held held' held'' (concat s.texts) text p.writes t.3);
       at = refl;
       cut = joined s.lines p.consumed ahead more p.cut ∙ ap (λ (u : List ℕ). ended s.lines ++ u) t.4.1 ∙ sym (ended-more s.lines line ahead');
       numbered = omega (arith, p.numbered, length_push s.lines line);
       ranked = omega (arith, p.ranked, lower);
       spent = λ going. elim t.5 [ inl none ↦ (let before : steps' ≤ steps = p.spent (omega arith) in omega arith) | inr (polled, costly) ↦ absurd (omega (arith, IsPolled-ranked stage polled)) ];
-      costs = Costs-more keys steps steps' steps'' s p.consumed ahead more stage p.at p.spent p.costs p.cut t.5;
+      costs = subst (Costs keys steps steps'' (p.consumed ++ more)) prints (Costs-more keys steps steps' steps'' s p.consumed ahead more text stage p.at p.spent p.costs p.cut t.5);
     }
-
--- a turn that could print this, after others
-prints_on : (keys : KeyLog) (left : Option (List ℕ)) (s : Session keys) (stage : Stage) (consumed rest text : List ℕ) (number : ℕ) → s.stage ≡ stage → consumed ≡ ended s.lines ++ rest → number ≡ next_number s
-    → CanPrint keys number left stage rest text → Prints keys left consumed (printed s ++ text)
-prints_on keys left s stage consumed rest text number at cut numbered can = elim can [
-  | inl (line, more, next, is, whole, does) ↦
-      let does' : Does keys s.stage line next text = subst (λ (stage : Stage). Does keys stage line next text) (sym at) does in (
-        record {
-          lines = s.lines ++ line ∷ [];
-          texts = s.texts ++ text ∷ [];
-          stage = next;
-          each = All-append IsLine s.lines (line ∷ []) s.each (All-cons IsLine line [] whole (All-nil IsLine));
-          follows = Follows-more keys Empty s.lines s.texts s.stage line text next s.follows does';
-        },
-        more,
-        cut ∙ ap (λ (u : List ℕ). ended s.lines ++ u) is ∙ sym (ended-more s.lines line more),
-        inl (ap (λ (u : List ℕ). concat s.texts ++ u) (sym (append-nil text)) ∙ sym (concat-append s.texts (text ∷ []))),
-      )
-  | inr (bad, says) ↦
-      (s, rest, cut, inr (subst (λ (stage : Stage). IsBad left stage rest) (sym at) bad, ap (λ (u : List ℕ). printed s ++ u) (says ∙ ap fault_text numbered)))
-]
 
 -- the last turn
 ended_as : (keys : KeyLog) (left : Option (List ℕ)) (s : Session keys) (stage : Stage) (consumed ahead more ahead' written : List ℕ) (number : ℕ) (end : End) → s.stage ≡ stage → consumed ≡ ended s.lines ++ ahead
@@ -166,27 +182,33 @@ ended_as keys left s stage consumed ahead more ahead' written number Fault at cu
 ended_as keys left s stage consumed ahead more ahead' written number ReadFault at cut numbered t =
     (s, ahead ++ more, joined s.lines consumed ahead more cut, t.0, ap (λ (u : List ℕ). printed s ++ u) t.1 ∙ append-nil (printed s))
 ended_as keys left s stage consumed ahead more ahead' written number WriteFault at cut numbered t = (
-  printed s ++ t.0,
+  s,
+  ahead ++ more,
+  t.0,
+  written,
   t.1,
-  prints_on keys left s stage (consumed ++ more) (ahead ++ more) t.0 number at (joined s.lines consumed ahead more cut) numbered t.2,
-  ap (λ (u : List ℕ). printed s ++ u) t.3 ∙ sym (append_assoc (printed s) written t.1),
+  joined s.lines consumed ahead more cut,
+  subst (λ (stage : Stage). CanPrint keys (next_number s) left stage (ahead ++ more) t.0) (sym at) (subst (λ (n : ℕ). CanPrint keys n left stage (ahead ++ more) t.0) numbered t.2),
+  t.3,
+  refl,
 )
 ended_as keys left s stage consumed ahead more ahead' written number Memory at cut numbered t =
-    (s, ahead ++ more, [], joined s.lines consumed ahead more cut, sym (append-nil (printed s ++ written) ∙ ap (λ (u : List ℕ). printed s ++ u) t ∙ append-nil (printed s)))
+    (s, ahead ++ more, joined s.lines consumed ahead more cut, ap (λ (u : List ℕ). printed s ++ u) t ∙ append-nil (printed s))
 
 pub played_end : (keys : KeyLog) (left left' left'' held held' held'' : Option (List ℕ)) (steps steps' steps'' : ℕ) (ahead ahead' : List ℕ) (stage : Stage) (number : ℕ) (end : End)
     → Played keys left left' held held' steps steps' ahead stage number → Turns keys number stage left' left'' held' held'' ahead ahead' steps' steps'' (Err end)
-    → Ends keys left left'' held held'' end × ((consumed : List ℕ) × Consumes left left'' consumed × Costs keys steps steps'' consumed)
+    → Ends keys left left'' held held'' end × Ran left left'' held held'' (Costs keys steps steps'')
 played_end keys left left' left'' held held' held'' steps steps' steps'' ahead ahead' stage number end p t =
-    let reads = Consumes-trans left left' left'' p.consumed t.0 p.reads t.2 in (
+    let reads = Consumes-trans left left' left'' p.consumed t.0 p.reads t.2 in
+    let writes = Appends-trans held held' held'' (printed p.session) t.1 p.writes t.3 in (
       (
         p.consumed ++ t.0,
         printed p.session ++ t.1,
         reads,
-        Appends-trans held held' held'' (printed p.session) t.1 p.writes t.3,
+        writes,
         ended_as keys left'' p.session stage p.consumed ahead t.0 ahead' t.1 number end p.at p.cut p.numbered t.4,
       ),
-      (p.consumed ++ t.0, reads, Costs-more keys steps steps' steps'' p.session p.consumed ahead t.0 stage p.at p.spent p.costs p.cut t.5),
+      (p.consumed ++ t.0, printed p.session ++ t.1, reads, writes, Costs-more keys steps steps' steps'' p.session p.consumed ahead t.0 t.1 stage p.at p.spent p.costs p.cut t.5),
     )
 
 CanPrint-wider : (inner outer : KeyLog) (number : ℕ) (left : Option (List ℕ)) (stage : Stage) (bytes text : List ℕ) → IsWider inner outer → CanPrint inner number left stage bytes text → CanPrint outer number left stage bytes text
@@ -226,7 +248,7 @@ turn_after told told' first now then' left left' left'' held held' held'' steps 
 pub end_after : (told told' : Option Relations) (first now then' : ℕ) (left left' left'' held held' held'' : Option (List ℕ)) (steps steps' steps'' : ℕ) (ahead ahead' : List ℕ) (stage : Stage) (number : ℕ) (end : End)
     → told' ≡ told → first ≤ now → now ≤ then' → Played (log told first now) left left' held held' steps steps' ahead stage number
     → Turns (log told' now then') number stage left' left'' held' held'' ahead ahead' steps' steps'' (Err end)
-    → Ends (log told first then') left left'' held held'' end × ((consumed : List ℕ) × Consumes left left'' consumed × Costs (log told first then') steps steps'' consumed)
+    → Ends (log told first then') left left'' held held'' end × Ran left left'' held held'' (Costs (log told first then') steps steps'')
 end_after told told' first now then' left left' left'' held held' held'' steps steps' steps'' ahead ahead' stage number end same lo hi p t =
     played_end (log told first then') left left' left'' held held' held'' steps steps' steps'' ahead ahead' stage number end
     (Played-wider (log told first now) (log told first then') left left' held held' steps steps' ahead stage number (record { told = refl; before = omega arith; after = hi }) p)
@@ -239,8 +261,51 @@ ends_at_once keys left held = (
   [],
   Consumes-nil left,
   Appends-nil held,
-  (record { lines = []; texts = []; stage = Empty; each = All-nil IsLine; follows = refl }, [], [], refl, refl),
+  (record { lines = []; texts = []; stage = Empty; each = All-nil IsLine; follows = refl }, [], refl, refl),
 )
+
+pub costs_at_once : (keys : KeyLog) (left held : Option (List ℕ)) (steps : ℕ) → Ran left left held held (Costs keys steps steps)
+costs_at_once keys left held steps = ([], [], Consumes-nil left, Appends-nil held, inl (omega arith))
+
+-- ---- What the key object was asked
+
+Asks-wider : (inner outer : KeyLog) (left left' held held' : Option (List ℕ)) → IsWider inner outer → Asks inner left left' held held' → Asks outer left left' held held'
+Asks-wider inner outer left left' held held' w (consumed, written, reads, writes, has) = (consumed, written, reads, writes, HasReply-wider inner outer consumed written IsToAsk w has)
+
+asks_on : (keys : KeyLog) (left left' left'' held held' held'' : Option (List ℕ)) (more text : List ℕ) → Asks keys left left' held held' → Consumes left' left'' more → Appends held' held'' text → Asks keys left left'' held held''
+asks_on keys left left' left'' held held' held'' more text (consumed, written, reads, writes, has) reads' writes' = (
+  consumed ++ more,
+  written ++ text,
+  Consumes-trans left left' left'' consumed more reads reads',
+  Appends-trans held held' held'' written text writes writes',
+  HasReply-on keys consumed written more text IsToAsk IsToAsk (λ stage r so. so) has,
+)
+
+asks_turn : (keys : KeyLog) (left left' left'' held held' held'' : Option (List ℕ)) (steps steps' : ℕ) (ahead : List ℕ) (stage : Stage) (number : ℕ) (text : List ℕ)
+    → Played keys left left' held held' steps steps' ahead stage number → TurnAsks stage left' left'' ahead → Appends held' held'' text → Asks keys left left'' held held''
+asks_turn keys left left' left'' held held' held'' steps steps' ahead stage number text p (more, line, rest, reads, is, whole, asks) writes = (
+  p.consumed ++ more,
+  printed p.session ++ text,
+  Consumes-trans left left' left'' p.consumed more p.reads reads,
+  Appends-trans held held' held'' (printed p.session) text p.writes writes,
+  HasReply-at keys p.session stage p.consumed ahead more line rest text asks.0 IsToAsk p.at p.cut is whole asks.1 asks.2,
+)
+
+-- the key object is as it was, or was to be asked, after a turn after others
+pub asked_after : {K : Type 0} (k k' k'' : K) (told told' : Option Relations) (first now then' : ℕ) (left left' left'' held held' held'' : Option (List ℕ)) (steps steps' steps'' : ℕ) (ahead ahead' : List ℕ) (stage : Stage)
+    (number : ℕ) (result : Result Kept End) → now ≤ then' → (k' ≡ k) ⊎ Asks (log told first now) left left' held held' → Played (log told first now) left left' held held' steps steps' ahead stage number
+    → Turns (log told' now then') number stage left' left'' held' held'' ahead ahead' steps' steps'' result → (k'' ≡ k') ⊎ TurnAsks stage left' left'' ahead → (k'' ≡ k) ⊎ Asks (log told first then') left left'' held held''
+asked_after k k' k'' told told' first now then' left left' left'' held held' held'' steps steps' steps'' ahead ahead' stage number result hi before p t turn =
+    let w : IsWider (log told first now) (log told first then') = record { told = refl; before = omega arith; after = hi } in
+    elim turn [
+      | inl same ↦ elim before [
+        | inl none ↦ inl (same ∙ none)
+        | inr asks ↦ inr (asks_on (log told first then') left left' left'' held held' held'' t.0 t.1 (Asks-wider (log told first now) (log told first then') left left' held held' w asks) t.2 t.3)
+      ]
+      | inr asks ↦
+          inr (asks_turn (log told first then') left left' left'' held held' held'' steps steps' ahead stage number t.1
+          (Played-wider (log told first now) (log told first then') left left' held held' steps steps' ahead stage number w p) asks t.3)
+    ]
 
 -- a turn that goes on leaves fewer to come
 pub turn_ranks : (keys : KeyLog) (number : ℕ) (stage : Stage) (left left' held held' : Option (List ℕ)) (ahead ahead' : List ℕ) (steps steps' : ℕ) (next : Kept)

@@ -1,13 +1,14 @@
 -- What one turn wrote, from what its parts ensure.
-use Rattle.std.proofs.Common.{◌≡◌, ◌≢◌, ℕ, List, [], ◌∷◌, ◌++◌, Option, Some, None, Result, Ok, Err, refl, sym, subst, ◌∙◌, inl, inr, arith}
+use Rattle.std.proofs.Common.{◌≡◌, ◌≢◌, ℕ, List, [], ◌∷◌, ◌++◌, Option, Some, None, Result, Ok, Err, ◌⊎◌, refl, sym, subst, ◌∙◌, inl, inr, arith}
 use Rattle.std.proofs.lemmas.List.{append-nil}
 use Rattle.std.specs.Io.KnownBytes.{Appends, Consumes}
 use Rattle.kl_io.specs.Causes.{AppendsFront}
+use Rattle.kl_script.specs.Commands.{CommandFields, add, begin, reply, Spells}
 use Rattle.kl_console.specs.Lines.{IsLine, Reading, ReadsLine}
 use Rattle.kl_console.specs.Texts.{fault_text}
 use Rattle.kl_console.specs.Session.{KeyLog, Stage, Does}
 use Rattle.kl_console.specs.Script.{IsBad}
-use Rattle.kl_console.specs.Turns.{Answered, Complains, LineCosts, TurnCosts, TurnIs, Turns}
+use Rattle.kl_console.specs.Turns.{Answered, CommandAsks, Complains, LineAsks, LineCosts, TurnAsks, TurnCosts, TurnIs, Turns}
 use Rattle.kl_console.specs.declared.line_reader.Found.TheVariants.{Line, End as AtEnd, TooLong}
 use Rattle.kl_console.specs.declared.session.Stage.{Stage as Kept}
 use Rattle.kl_console.specs.declared.turn.End.{End}
@@ -70,3 +71,17 @@ turn_end keys number stage left left' held held' old new (x ∷ xs) ahead' steps
     let some : x ∷ xs ≢ [] = λ none. cc in
     turn_by keys number stage left left' held held' old.ahead ahead' (x ∷ xs) steps steps (Err end) (r.0, r.1, r.2.0 ∙ e)
     (complained keys number left' stage (x ∷ xs) ahead' held held' end (inr (inl (some, subst IsLine e r.2.2, r.3))) (bad some)) (inl (omega arith))
+
+-- the key object is as it was, or is to be asked about the command that a line spells
+pub asks_by : {K : Type 0} (old new : K) (stage : Stage) (line : List ℕ) (c : CommandFields) → Spells line c → (new ≡ old) ⊎ CommandAsks stage c → (new ≡ old) ⊎ LineAsks stage line
+asks_by old new stage line (add a) spelled asked = elim asked [ inl same ↦ inl same | inr none ↦ absurd none ]
+asks_by old new stage line (begin b) spelled asked = elim asked [ inl same ↦ inl same | inr none ↦ absurd none ]
+asks_by old new stage line (reply r) spelled asked = elim asked [ inl same ↦ inl same | inr so ↦ inr (r, spelled, so) ]
+
+-- the same of the line that was read
+pub asks_read : {K : Type 0} (old new : K) (stage : Stage) (left left' : Option (List ℕ)) (before after : Reading) → ReadsLine left left' before after (Ok Line) → (new ≡ old) ⊎ LineAsks stage after.line
+    → (new ≡ old) ⊎ TurnAsks stage left left' before.ahead
+asks_read old new stage left left' before after r asked = elim asked [
+  | inl same ↦ inl same
+  | inr asks ↦ inr (r.0, after.line, after.ahead, r.1, r.2.0, r.2.1, asks)
+]

@@ -7,7 +7,7 @@ use Rattle.kl_entry.specs.Lines.{lines_of}
 use Rattle.kl_script.specs.Commands.{ReplyFields, reply, Spells}
 use Rattle.kl_console.specs.Lines.{IsLine, ended}
 use Rattle.kl_console.specs.Texts.{fault_text}
-use Rattle.kl_console.specs.Session.{KeyLog, IsPolled}
+use Rattle.kl_console.specs.Session.{KeyLog, Stage, Does, IsPolled, IsToAsk}
 use Rattle.kl_console.specs.Script.{Session, IsBad, next_number, printed}
 
 -- What was taken from a source, which had the one and has the other left, and what was put into a sink, which held the
@@ -31,32 +31,43 @@ abbrev pub IsBroken : KeyLog → List ℕ → List ℕ → Type 0
 IsBroken keys consumed written =
     (s : Session keys) × (part : List ℕ) × (consumed ≡ ended s.lines ++ part) × IsLine part × (written ≡ printed s)
 
--- the bytes that were read make a run print this
-abbrev pub Prints : KeyLog → Option (List ℕ) → List ℕ → List ℕ → Type 0
-Prints keys left consumed output =
-    (s : Session keys) × (rest : List ℕ) × (consumed ≡ ended s.lines ++ rest)
-    × ((output ≡ printed s) ⊎ (IsBad left s.stage rest × (output ≡ printed s ++ fault_text (next_number s))))
+-- the bytes begin with a line that prints this
+abbrev pub HasLine : KeyLog → Stage → List ℕ → List ℕ → Type 0
+HasLine keys stage bytes text =
+    (line : List ℕ) × (more : List ℕ) × (next : Stage) × (bytes ≡ line ++ 10 ∷ more) × IsLine line × Does keys stage line next text
 
--- what was written is the beginning of the texts of lines that were read
+-- what is to be printed of these bytes: the text of the line that they begin with, or that the line of this number is bad
+abbrev pub CanPrint : KeyLog → ℕ → Option (List ℕ) → Stage → List ℕ → List ℕ → Type 0
+CanPrint keys number left stage bytes text = HasLine keys stage bytes text ⊎ (IsBad left stage bytes × (text ≡ fault_text number))
+
+-- the texts of lines that were read were written, each whole
 abbrev pub IsShort : KeyLog → List ℕ → List ℕ → Type 0
-IsShort keys consumed written =
-    (s : Session keys) × (rest : List ℕ) × (lost : List ℕ) × (consumed ≡ ended s.lines ++ rest) × (printed s ≡ written ++ lost)
+IsShort keys consumed written = (s : Session keys) × (rest : List ℕ) × (consumed ≡ ended s.lines ++ rest) × (written ≡ printed s)
 
--- what was written is the beginning of what is to be printed
+-- the texts of the lines before were written, and a front of what is to be printed next
 abbrev pub IsCutOff : KeyLog → Option (List ℕ) → List ℕ → List ℕ → Type 0
 IsCutOff keys left consumed written =
-    (output : List ℕ) × (lost : List ℕ) × Prints keys left consumed output × (output ≡ written ++ lost)
+    (s : Session keys) × (rest : List ℕ) × (text : List ℕ) × (front : List ℕ) × (lost : List ℕ) × (consumed ≡ ended s.lines ++ rest)
+    × CanPrint keys (next_number s) left s.stage rest text × (text ≡ front ++ lost) × (written ≡ printed s ++ front)
 
--- the bytes begin with the lines of a session that awaits a reply, and then have the line of a reply with this list
-abbrev pub HasReply : KeyLog → List ℕ → ReplyFields → Type 0
-HasReply keys consumed r =
-    (s : Session keys) × (line : List ℕ) × (more : List ℕ)
-    × IsPolled s.stage × (consumed ≡ ended s.lines ++ (line ++ 10 ∷ more)) × IsLine line × Spells line (reply r)
+-- The bytes begin with the lines of a session and then have the line of a reply, of which this is so at its place; and the
+-- texts of the lines before it were written.
+abbrev pub HasReply : KeyLog → List ℕ → List ℕ → (Stage → ReplyFields → Type 0) → Type 0
+HasReply keys consumed written IsSo =
+    (s : Session keys) × (line : List ℕ) × (more : List ℕ) × (later : List ℕ) × (r : ReplyFields) × (consumed ≡ ended s.lines ++ (line ++ 10 ∷ more))
+    × IsLine line × Spells line (reply r) × (written ≡ printed s ++ later) × IsSo s.stage r
 
--- no step was taken, or the reply that a session awaited was read, and at most one step was taken for each entry of its list
-abbrev pub Costs : KeyLog → ℕ → ℕ → List ℕ → Type 0
-Costs keys before after consumed =
-    (after ≤ before) ⊎ ((r : ReplyFields) × HasReply keys consumed r × (after ≤ before + length (lines_of r.list)))
+-- the reply is awaited, and at most one step was taken for each line of its list
+abbrev pub IsPaid : ℕ → ℕ → Stage → ReplyFields → Type 0
+IsPaid before after stage r = IsPolled stage × (after ≤ before + length (lines_of r.list))
+
+-- no step was taken, or a reply was read that was awaited, and the steps were taken for that
+abbrev pub Costs : KeyLog → ℕ → ℕ → List ℕ → List ℕ → Type 0
+Costs keys before after consumed written = (after ≤ before) ⊎ HasReply keys consumed written (IsPaid before after)
+
+-- a reply was read that the key object is to be asked about
+abbrev pub Asks : KeyLog → Option (List ℕ) → Option (List ℕ) → Option (List ℕ) → Option (List ℕ) → Type 0
+Asks keys left left' held held' = Ran left left' held held' (λ consumed written. HasReply keys consumed written IsToAsk)
 
 -- the numbers with which a run ends
 abbrev pub IsStatus : ℕ → Type 0

@@ -1,10 +1,9 @@
 -- A session: what the commands of a script do, one after the other, and what each prints.
-use Rattle.std.specs.Prelude.{◌≡◌, ◌⊎◌, ℕ, Bool, false, List, [], ◌∷◌, length, ⊤, Option, Some, None}
+use Rattle.std.specs.Prelude.{◌≡◌, ◌⊎◌, ℕ, Bool, false, List, [], ◌∷◌, ⊤, Option, Some, None}
 use Rattle.kl_states.specs.declared.verdict.Verdict.{Verdict}
 use Rattle.kl_states.specs.declared.verdict.Verdict.TheVariants.{Pass, Failed, Invalid}
 use Rattle.kl_keys.specs.Relations.{Relations}
 use Rattle.kl_keys.specs.Causes.{Rose}
-use Rattle.kl_entry.specs.Lines.{lines_of}
 use Rattle.kl_quote.specs.declared.evidence.Evidence.{Evidence}
 use Rattle.kl_appraise.specs.Terms.{AreTerms, TermsFields}
 use Rattle.kl_appraise.specs.QuoteRules.{IsAnswered, IsUnasked}
@@ -100,14 +99,7 @@ abbrev pub IsPolled : Stage → Type 0
 IsPolled (Polled agent terms nonce) = ⊤
 IsPolled _ = ⊥
 
--- how many more commands may follow
-abbrev pub rank : Stage → ℕ
-rank Empty = 3
-rank (Installed agent terms) = 2
-rank (Polled agent terms nonce) = 1
-rank Over = 0
-
--- the most steps that a command takes: one for each entry of the list of a reply that is awaited
-abbrev pub cost_of : Stage → CommandFields → ℕ
-cost_of (Polled agent terms nonce) (reply r) = length (lines_of r.list)
-cost_of _ _ = 0
+-- no rule before that on the signature decides on the reply that is awaited, so the key object is to be asked about it
+abbrev pub IsToAsk : Stage → ReplyFields → Type 0
+IsToAsk (Polled agent terms nonce) r = (e : Evidence) × (fields_of e ≡ r) × (¬ IsUnasked (check_of (whole_case terms nonce e false)))
+IsToAsk _ r = ⊥

@@ -3,25 +3,16 @@ use Rattle.std.specs.Prelude.{◌≡◌, ◌⊎◌, ℕ, ◌+◌, ◌≤◌, Lis
 use Rattle.std.specs.Io.KnownBytes.{Appends, Consumes, IsAtEnd}
 use Rattle.kl_io.specs.Causes.{AppendsFront}
 use Rattle.kl_entry.specs.Lines.{lines_of}
-use Rattle.kl_script.specs.Commands.{ReplyFields, reply, Spells}
+use Rattle.kl_script.specs.Commands.{CommandFields, ReplyFields, reply, Spells}
 use Rattle.kl_console.specs.Lines.{IsLine}
 use Rattle.kl_console.specs.Texts.{fault_text}
-use Rattle.kl_console.specs.Session.{KeyLog, Stage, Does, IsPolled}
+use Rattle.kl_console.specs.Session.{KeyLog, Stage, Polled, Does, IsPolled, IsToAsk}
 use Rattle.kl_console.specs.Script.{IsBad}
 use Rattle.kl_console.specs.Stages.{stage_of}
-use Rattle.kl_console.specs.Run.{Ran, IsDone, IsFaulty, IsBroken, IsCutOff, IsShort}
+use Rattle.kl_console.specs.Run.{Ran, CanPrint, IsDone, IsFaulty, IsBroken, IsCutOff, IsShort}
 use Rattle.kl_console.specs.declared.session.Stage.{Stage as Kept}
 use Rattle.kl_console.specs.declared.turn.End.{End}
 use Rattle.kl_console.specs.declared.turn.End.TheVariants.{Done, Fault, ReadFault, WriteFault, Memory}
-
--- the bytes begin with a line that prints this
-abbrev pub HasLine : KeyLog → Stage → List ℕ → List ℕ → Type 0
-HasLine keys stage bytes text =
-    (line : List ℕ) × (more : List ℕ) × (next : Stage) × (bytes ≡ line ++ 10 ∷ more) × IsLine line × Does keys stage line next text
-
--- what a turn over these bytes has to print: the text of the line, or that it is bad
-abbrev pub CanPrint : KeyLog → ℕ → Option (List ℕ) → Stage → List ℕ → List ℕ → Type 0
-CanPrint keys number left stage bytes text = HasLine keys stage bytes text ⊎ (IsBad left stage bytes × (text ≡ fault_text number))
 
 -- what a turn found in the bytes, left of them, and wrote
 abbrev pub TurnIs : KeyLog → ℕ → Option (List ℕ) → Stage → List ℕ → List ℕ → List ℕ → Result Kept End → Type 0
@@ -46,6 +37,25 @@ TurnCosts stage bytes before after =
 abbrev pub LineCosts : Stage → List ℕ → ℕ → ℕ → Type 0
 LineCosts stage line before after =
     (after ≤ before) ⊎ (IsPolled stage × ((r : ReplyFields) × Spells line (reply r) × (after ≤ before + length (lines_of r.list))))
+
+-- the steps of a command: none, or at most one for each line of the list of a reply that is awaited
+abbrev pub cost_of : Stage → CommandFields → ℕ
+cost_of (Polled agent terms nonce) (reply r) = length (lines_of r.list)
+cost_of _ _ = 0
+
+-- the key object is to be asked about the command
+abbrev pub CommandAsks : Stage → CommandFields → Type 0
+CommandAsks stage (reply r) = IsToAsk stage r
+CommandAsks stage _ = ⊥
+
+-- the key object is to be asked about the reply that the line spells
+abbrev pub LineAsks : Stage → List ℕ → Type 0
+LineAsks stage line = (r : ReplyFields) × Spells line (reply r) × IsToAsk stage r
+
+-- the same of the line that was read in a turn
+abbrev pub TurnAsks : Stage → Option (List ℕ) → Option (List ℕ) → List ℕ → Type 0
+TurnAsks stage left left' ahead =
+    (consumed : List ℕ) × (line : List ℕ) × (more : List ℕ) × Consumes left left' consumed × (ahead ++ consumed ≡ line ++ 10 ∷ more) × IsLine line × LineAsks stage line
 
 -- what was written of the word that a line is bad, by how that went
 abbrev pub Complains : Option (List ℕ) → Option (List ℕ) → ℕ → End → Type 0

@@ -1,6 +1,6 @@
 //! What an `add` does.
 
-ghost use Rattle.std.specs.Prelude.{◌≡◌, ◌≢◌, Err, IfOk, IfErr, string_bytes};
+ghost use Rattle.std.specs.Prelude.{◌≢◌, Err, IfOk, IfErr, string_bytes};
 ghost use Rattle.kl_appraise.specs.Terms.{AreTerms};
 ghost use Rattle.kl_script.specs.Commands.{add_fields};
 ghost use Rattle.kl_console.specs.Session.{Adds};

@@ -1,7 +1,10 @@
 //! What a `reply` does.
 
-ghost use Rattle.std.specs.Prelude.{◌≡◌, ◌≢◌, ◌≤◌, ◌+◌, Err, IfOk, length, string_bytes};
+ghost use Rattle.std.specs.Prelude.{◌≡◌, ◌≢◌, ◌⊎◌, ◌≤◌, ◌+◌, Err, IfOk, length, string_bytes, false};
 ghost use Rattle.kl_entry.specs.Lines.{lines_of};
+ghost use Rattle.kl_appraise.specs.QuoteRules.{IsUnasked};
+ghost use Rattle.kl_appraise.specs.ListRules.{check_of};
+ghost use Rattle.kl_appraise.specs.Outcome.{whole_case};
 ghost use Rattle.kl_console.specs.Session.{Concludes, Over, fields_of, state_after};
 ghost use Rattle.kl_console.specs.Stages.{stage_of};
 
@@ -45,6 +48,7 @@ pub fn conclude<Y: Keys, L: Ledger>(
     })
         terms.now nonce.now (fields_of evidence.now) (string_bytes done.1)) }
     ensures none { result ≢ Err Stop.NoCommand }
+    ensures asked { (keys.new ≡ keys.old) ⊎ (¬ (IsUnasked (check_of (whole_case terms.now nonce.now evidence.now false)))) }
     ensures told { Y.told keys.new ≡ Y.told keys.old }
     ensures count { Y.fault_count keys.old ≤ Y.fault_count keys.new }
     ensures cost { steps.new ≤ steps.old + length (lines_of evidence.now.list) }

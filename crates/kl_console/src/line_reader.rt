@@ -1,6 +1,6 @@
 //! Lines from a source, one at a time.
 
-ghost use Rattle.std.specs.Prelude.{◌≡◌, ◌++◌, ◌∷◌, [], List, ℕ, Err, ◌<◌, ◌≤◌, true, false, length, IfOk, OnErr, IfSome, IfNone};
+ghost use Rattle.std.specs.Prelude.{◌≡◌, ◌++◌, [], List, ℕ, Err, ◌<◌, ◌≤◌, true, false, length, IfOk, OnErr, IfSome, IfNone};
 ghost use Rattle.std.specs.Io.KnownBytes.{Consumes, IsAtEnd};
 ghost use Rattle.kl_io.specs.Causes.{HasCause, Rose};
 ghost use Rattle.kl_console.specs.Lines.{HasNoNewline, IsNewlineAt, ReadsLine, held_bytes};

@@ -1,9 +1,8 @@
 //! What the program does.
 
-ghost use Rattle.std.specs.Prelude.{◌≡◌, ◌≢◌, ◌↔◌, ◌⊎◌, ◌≤◌, ◌∷◌, [], ℕ, List, map, codes, string_bytes, IsTrue};
-ghost use Rattle.std.specs.Io.KnownBytes.{Consumes};
+ghost use Rattle.std.specs.Prelude.{◌≡◌, ◌≢◌, ◌↔◌, ◌⊎◌, ◌≤◌, ◌∷◌, [], map, codes, string_bytes, IsTrue};
 ghost use Rattle.kl_io.specs.Causes.{Rose};
-ghost use Rattle.kl_console.specs.Run.{Costs, IsBroken, IsCutOff, IsDone, IsFaulty, IsShort, IsStatus, Ran};
+ghost use Rattle.kl_console.specs.Run.{Asks, Costs, IsBroken, IsCutOff, IsDone, IsFaulty, IsShort, IsStatus, Ran};
 ghost use Rattle.kl_console.specs.Turns.{status_of};
 
 use crate::turn::{End, play};
@@ -77,13 +76,13 @@ pub fn run<S: Source, K: Sink, Y: Keys, L: Ledger>(
         → Ran (S.left script.old) (S.left script.new) (K.held out.old) (K.held out.new) (IsBroken
         (record { told = Y.told keys.old; before = Y.fault_count keys.old; after = Y.fault_count keys.new })) }
     ensures read_cause { result ≡ 4 → Rose (S.fault_count script.old) (S.fault_count script.new) }
-    // 5: the output met a fault; what was written is the beginning of what was to be printed.
+    // 5: the output met a fault; the texts of the lines before were written, and a beginning of what was to be printed next.
     ensures write_fault { result ≡ 5
         → Ran (S.left script.old) (S.left script.new) (K.held out.old) (K.held out.new) (IsCutOff
         (record { told = Y.told keys.old; before = Y.fault_count keys.old; after = Y.fault_count keys.new })
         (S.left script.new)) }
     ensures write_cause { result ≡ 5 → Rose (K.fault_count out.old) (K.fault_count out.new) }
-    // 70: memory ran out; what was written is the beginning of the texts of lines that were read.
+    // 70: memory ran out; the texts of lines that were read were written, each whole.
     ensures memory { result ≡ 70
         → Ran (S.left script.old) (S.left script.new) (K.held out.old) (K.held out.new) (IsShort
         (record { told = Y.told keys.old; before = Y.fault_count keys.old; after = Y.fault_count keys.new })) }
@@ -93,10 +92,16 @@ pub fn run<S: Source, K: Sink, Y: Keys, L: Ledger>(
     ensures unread { result ≡ 2 → script.new ≡ script.old }
     ensures unwritten { result ≡ 2 → out.new ≡ out.old }
     ensures unasked { result ≡ 2 → (keys.new ≡ keys.old) × (steps.new ≡ steps.old) }
-    // A step is taken only once the reply that was awaited was read, and at most one for each entry of its list.
-    ensures cost { (consumed : List ℕ) × Consumes (S.left script.old) (S.left script.new) consumed
-        × Costs (record { told = Y.told keys.old; before = Y.fault_count keys.old; after = Y.fault_count keys.new })
-        steps.old steps.new consumed }
+    // A step is taken only once the reply that was awaited was read and the texts of the lines before it were written, and
+    // at most one for each line of its list.
+    ensures cost { Ran (S.left script.old) (S.left script.new) (K.held out.old) (K.held out.new) (Costs
+        (record { told = Y.told keys.old; before = Y.fault_count keys.old; after = Y.fault_count keys.new })
+        steps.old steps.new) }
+    // The key object is left as it was, unless a reply was read that it is to be asked about, once the texts of the
+    // lines before it were written.
+    ensures asked { (keys.new ≡ keys.old) ⊎ Asks
+        (record { told = Y.told keys.old; before = Y.fault_count keys.old; after = Y.fault_count keys.new })
+        (S.left script.old) (S.left script.new) (K.held out.old) (K.held out.new) }
     ensures told { Y.told keys.new ≡ Y.told keys.old }
     // No count of faults falls.
     ensures script_count { S.fault_count script.old ≤ S.fault_count script.new }

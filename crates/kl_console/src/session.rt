@@ -1,10 +1,11 @@
 //! What commands do, one after the other.
 
-ghost use Rattle.std.specs.Prelude.{◌≡◌, ◌≢◌, ◌≤◌, ◌+◌, Err, IfOk, string_bytes};
+ghost use Rattle.std.specs.Prelude.{◌≡◌, ◌≢◌, ◌⊎◌, ◌≤◌, ◌+◌, Err, IfOk, string_bytes};
 ghost use Rattle.kl_script.specs.Commands.{fields};
-ghost use Rattle.kl_console.specs.Session.{IsNext, Obeys, cost_of};
+ghost use Rattle.kl_console.specs.Session.{IsNext, Obeys};
 ghost use Rattle.kl_console.specs.Stages.{stage_of};
 ghost use Rattle.kl_console.specs.Texts.{polled_text};
+ghost use Rattle.kl_console.specs.Turns.{CommandAsks, cost_of};
 
 use crate::adding::install;
 use crate::concluding::conclude;
@@ -73,6 +74,7 @@ pub fn obey<Y: Keys, L: Ledger>(
     })
         (stage_of stage) (fields command) (stage_of done.0) (string_bytes done.1)) }
     ensures none { result ≡ Err Stop.NoCommand → ¬ (IsNext (stage_of stage) (fields command)) }
+    ensures asked { (keys.new ≡ keys.old) ⊎ CommandAsks (stage_of stage) (fields command) }
     ensures told { Y.told keys.new ≡ Y.told keys.old }
     ensures count { Y.fault_count keys.old ≤ Y.fault_count keys.new }
     ensures cost { steps.new ≤ steps.old + cost_of (stage_of stage) (fields command) }

@@ -1,15 +1,14 @@
 //! One turn of a session, and all of them.
 
-ghost use Rattle.std.specs.Prelude.{◌≡◌, ◌≤◌, ◌<◌, ◌+◌, ◌^◌, ◌++◌, ◌∷◌, ◌≢◌, [], Err, Ok, IfOk, IfErr, OnOk, OnErr, string_bytes, List, ℕ, length};
+ghost use Rattle.std.specs.Prelude.{◌≡◌, ◌⊎◌, ◌≤◌, ◌<◌, ◌+◌, ◌++◌, ◌∷◌, ◌≢◌, [], Err, Ok, IfOk, IfErr, OnOk, OnErr, string_bytes, List, ℕ, length};
 ghost use Rattle.std.specs.declared.option.Option.{Option};
-ghost use Rattle.std.specs.Io.KnownBytes.{Appends, Consumes};
+ghost use Rattle.std.specs.Io.KnownBytes.{Appends};
 ghost use Rattle.kl_io.specs.Causes.{AppendsFront, HasCause, Rose};
-ghost use Rattle.kl_console.specs.Texts.{fault_text};
 ghost use Rattle.kl_console.specs.Lines.{line_limit, IsLine};
-ghost use Rattle.kl_console.specs.Session.{Does, IsNoCommand, rank};
+ghost use Rattle.kl_console.specs.Session.{Does, IsNoCommand};
 ghost use Rattle.kl_console.specs.Stages.{stage_of};
-ghost use Rattle.kl_console.specs.Run.{Costs};
-ghost use Rattle.kl_console.specs.Turns.{Answered, Complains, Ends, LineCosts, Turns};
+ghost use Rattle.kl_console.specs.Run.{Asks, Costs, Ran};
+ghost use Rattle.kl_console.specs.Turns.{Answered, Complains, Ends, LineAsks, LineCosts, TurnAsks, Turns};
 
 use crate::line_reader::{Found, LineReader, ReadError};
 use crate::session::{Stage, Stop, obey};
@@ -84,6 +83,7 @@ fn execute<Y: Keys, L: Ledger>(
         (stage_of stage) reader.old.line (stage_of done.0) (string_bytes done.1)) }
     ensures none { result ≡ Err Stop.NoCommand → IsNoCommand (stage_of stage) reader.old.line }
     ensures ahead { reader.new.ahead ≡ reader.old.ahead }
+    ensures asked { (keys.new ≡ keys.old) ⊎ LineAsks (stage_of stage) reader.old.line }
     ensures told { Y.told keys.new ≡ Y.told keys.old }
     ensures count { Y.fault_count keys.old ≤ Y.fault_count keys.new }
     ensures cost { LineCosts (stage_of stage) reader.old.line steps.old steps.new }
@@ -119,6 +119,7 @@ fn turn<S: Source, K: Sink, Y: Keys, L: Ledger>(
         reader.old.ahead reader.new.ahead steps.old steps.new result }
     ensures read { result ≡ Err End.ReadFault → Rose (S.fault_count script.old) (S.fault_count script.new) }
     ensures write { result ≡ Err End.WriteFault → Rose (K.fault_count out.old) (K.fault_count out.new) }
+    ensures asked { (keys.new ≡ keys.old) ⊎ TurnAsks (stage_of stage) (S.left script.old) (S.left script.new) reader.old.ahead }
     ensures told { Y.told keys.new ≡ Y.told keys.old }
     ensures counts { (S.fault_count script.old ≤ S.fault_count script.new)
         × (K.fault_count out.old ≤ K.fault_count out.new)
@@ -168,6 +169,7 @@ fn answer<K: Sink, Y: Keys, L: Ledger>(
         (K.held out.old) (K.held out.new) result }
     ensures cost { LineCosts (stage_of stage) reader.old.line steps.old steps.new }
     ensures write { result ≡ Err End.WriteFault → Rose (K.fault_count out.old) (K.fault_count out.new) }
+    ensures asked { (keys.new ≡ keys.old) ⊎ LineAsks (stage_of stage) reader.old.line }
     ensures told { Y.told keys.new ≡ Y.told keys.old }
     ensures no_read { result ≢ Err End.ReadFault }
     ensures keys_count { Y.fault_count keys.old ≤ Y.fault_count keys.new }
@@ -198,11 +200,17 @@ pub fn play<S: Source, K: Sink, Y: Keys, L: Ledger>(
       after = Y.fault_count keys.new;
     })
         (S.left script.old) (S.left script.new) (K.held out.old) (K.held out.new) result }
-    ensures cost { (consumed : List ℕ) × Consumes (S.left script.old) (S.left script.new) consumed
-        × Costs (record { told = Y.told keys.old; before = Y.fault_count keys.old; after = Y.fault_count keys.new })
-        steps.old steps.new consumed }
+    ensures cost { Ran (S.left script.old) (S.left script.new) (K.held out.old) (K.held out.new) (Costs
+        (record { told = Y.told keys.old; before = Y.fault_count keys.old; after = Y.fault_count keys.new })
+        steps.old steps.new) }
     ensures read { result ≡ End.ReadFault → Rose (S.fault_count script.old) (S.fault_count script.new) }
     ensures write { result ≡ End.WriteFault → Rose (K.fault_count out.old) (K.fault_count out.new) }
+    ensures asked { (keys.new ≡ keys.old) ⊎ Asks (record {
+      told = Y.told keys.old;
+      before = Y.fault_count keys.old;
+      after = Y.fault_count keys.new;
+    })
+        (S.left script.old) (S.left script.new) (K.held out.old) (K.held out.new) }
     ensures told { Y.told keys.new ≡ Y.told keys.old }
     ensures counts { (S.fault_count script.old ≤ S.fault_count script.new)
         × (K.fault_count out.old ≤ K.fault_count out.new)

@@ -1,5 +1,5 @@
 -- Which of the nine rules is the first that applies, and what the key object was asked.
-use Rattle.std.proofs.Common.{◌≡◌, ◌≢◌, ℕ, List, true, false, Err, refl, sym, ap, subst, rules}
+use Rattle.std.proofs.Common.{◌≡◌, ◌≢◌, ℕ, List, true, false, Err, refl, sym, ap, subst, inr, rules}
 use Rattle.kl_bank.specs.Banks.{name_of}
 use Rattle.kl_attest.specs.Grammar.{Spells}
 use Rattle.kl_attest.specs.FirstFault.{IsFirstFault}
@@ -108,3 +108,31 @@ returns-in_err-verify-clause-asked g c = λ _.
     let bank : c.args.evidence.now.bank ≡ name_of c.args.wanted.now.bank = search rules in
     let spells = subst (λ (x : List ℕ). Spells x (view c.in-Ok-read_attest.read)) c.as_slice.ensures c.in-Ok-read_attest.ensures.found in
     is_asked (k false) c.in-Ok.quote.attest c.in-Ok.quote.signature c.in-Ok.quote.pcrs (view c.in-Ok-read_attest.read) q spells bank
+
+pub returns-in_err-verify-clause-unasked : goal.returns-in_err-verify-clause-unasked
+returns-in_err-verify-clause-unasked g c =
+    let q = subst (λ (x : List ℕ). IsQuoteText x c.in-Ok.quote.attest c.in-Ok.quote.signature c.in-Ok.quote.pcrs) c.as_str.ensures c.in-Ok.ensures.found in
+    let bank : c.args.evidence.now.bank ≡ name_of c.args.wanted.now.bank = search rules in
+    let spells = subst (λ (x : List ℕ). Spells x (view c.in-Ok-read_attest.read)) c.as_slice.ensures c.in-Ok-read_attest.ensures.found in
+    inr (is_asked (check_for c.args.wanted.now c.args.evidence.now false) c.in-Ok.quote.attest c.in-Ok.quote.signature c.in-Ok.quote.pcrs (view c.in-Ok-read_attest.read) q spells bank)
+
+pub returns-then-not-branch-clause-unasked : goal.returns-then-not-branch-clause-unasked
+returns-then-not-branch-clause-unasked g c =
+    let q = subst (λ (x : List ℕ). IsQuoteText x c.in-Ok.quote.attest c.in-Ok.quote.signature c.in-Ok.quote.pcrs) c.as_str.ensures c.in-Ok.ensures.found in
+    let bank : c.args.evidence.now.bank ≡ name_of c.args.wanted.now.bank = search rules in
+    let spells = subst (λ (x : List ℕ). Spells x (view c.in-Ok-read_attest.read)) c.as_slice.ensures c.in-Ok-read_attest.ensures.found in
+    inr (is_asked (check_for c.args.wanted.now c.args.evidence.now false) c.in-Ok.quote.attest c.in-Ok.quote.signature c.in-Ok.quote.pcrs (view c.in-Ok-read_attest.read) q spells bank)
+
+pub returns-in-Some-clause-unasked : goal.returns-in-Some-clause-unasked
+returns-in-Some-clause-unasked g c =
+    let q = subst (λ (x : List ℕ). IsQuoteText x c.in-Ok.quote.attest c.in-Ok.quote.signature c.in-Ok.quote.pcrs) c.as_str.ensures c.in-Ok.ensures.found in
+    let bank : c.args.evidence.now.bank ≡ name_of c.args.wanted.now.bank = search rules in
+    let spells = subst (λ (x : List ℕ). Spells x (view c.in-Ok-read_attest.read)) c.as_slice.ensures c.in-Ok-read_attest.ensures.found in
+    inr (is_asked (check_for c.args.wanted.now c.args.evidence.now false) c.in-Ok.quote.attest c.in-Ok.quote.signature c.in-Ok.quote.pcrs (view c.in-Ok-read_attest.read) q spells bank)
+
+pub returns-clause-unasked : goal.returns-clause-unasked
+returns-clause-unasked g c =
+    let q = subst (λ (x : List ℕ). IsQuoteText x c.in-Ok.quote.attest c.in-Ok.quote.signature c.in-Ok.quote.pcrs) c.as_str.ensures c.in-Ok.ensures.found in
+    let bank : c.args.evidence.now.bank ≡ name_of c.args.wanted.now.bank = search rules in
+    let spells = subst (λ (x : List ℕ). Spells x (view c.in-Ok-read_attest.read)) c.as_slice.ensures c.in-Ok-read_attest.ensures.found in
+    inr (is_asked (check_for c.args.wanted.now c.args.evidence.now false) c.in-Ok.quote.attest c.in-Ok.quote.signature c.in-Ok.quote.pcrs (view c.in-Ok-read_attest.read) q spells bank)

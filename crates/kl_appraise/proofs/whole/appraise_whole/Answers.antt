@@ -5,7 +5,7 @@ use Rattle.kl_states.specs.declared.verdict.Verdict.TheVariants.{Invalid}
 use Rattle.kl_appraise.specs.declared.fault.AppraiseError.TheVariants.{Keys}
 use Rattle.kl_appraise.specs.Checked.{ChecksAs}
 use Rattle.kl_appraise.specs.Outcome.{whole_case}
-use Rattle.kl_appraise.proofs.GenuineFacts.{asked_at, check_at, genuine_passes, refused_verdict, sound_verdict}
+use Rattle.kl_appraise.proofs.GenuineFacts.{asked_at, check_at, unasked_at, genuine_passes, refused_verdict, sound_verdict}
 use Rattle.kl_appraise.proofs.whole.appraise_whole.Goals as goal
 
 pub returns-in-Refused-clause-verdict : goal.returns-in-Refused-clause-verdict
@@ -34,3 +34,19 @@ returns-in_err-quote-clause-asked g c =
     let blamed : c.in_err-quote.field-0.0 ≡ Keys = cc in
     let case = whole_case c.args.terms.now c.args.nonce.now c.args.evidence.now false in
     asked_at case c.bank.result c.mask.result c.bank.ensures c.mask.ensures.value (c.in_err-quote.ensures.asked (ap Err blamed)))
+
+pub returns-in-Refused-clause-unasked : goal.returns-in-Refused-clause-unasked
+returns-in-Refused-clause-unasked g c =
+    unasked_at _ _ (whole_case c.args.terms.now c.args.nonce.now c.args.evidence.now false) c.bank.result c.mask.result c.bank.ensures c.mask.ensures.value c.check_quote.ensures.unasked
+
+pub returns-clause-unasked : goal.returns-clause-unasked
+returns-clause-unasked g c =
+    unasked_at _ _ (whole_case c.args.terms.now c.args.nonce.now c.args.evidence.now false) c.bank.result c.mask.result c.bank.ensures c.mask.ensures.value c.check_quote.ensures.unasked
+
+pub returns-in_err-quote-clause-unasked : goal.returns-in_err-quote-clause-unasked
+returns-in_err-quote-clause-unasked g c =
+    unasked_at _ _ (whole_case c.args.terms.now c.args.nonce.now c.args.evidence.now false) c.bank.result c.mask.result c.bank.ensures c.mask.ensures.value c.check_quote.ensures.unasked
+
+pub returns-in_err-verdict-clause-unasked : goal.returns-in_err-verdict-clause-unasked
+returns-in_err-verdict-clause-unasked g c =
+    unasked_at _ _ (whole_case c.args.terms.now c.args.nonce.now c.args.evidence.now false) c.bank.result c.mask.result c.bank.ensures c.mask.ensures.value c.check_quote.ensures.unasked

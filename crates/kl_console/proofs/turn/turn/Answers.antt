@@ -1,5 +1,5 @@
 use Rattle.std.proofs.Common.{refl}
-use Rattle.kl_console.proofs.Printing.{turn_end, turn_line, turn_long}
+use Rattle.kl_console.proofs.Printing.{asks_read, turn_end, turn_line, turn_long}
 use Rattle.kl_console.proofs.turn.turn.Goals as goal
 
 pub returns-in-Ok-Line-clause-turns : goal.returns-in-Ok-Line-clause-turns
@@ -16,3 +16,8 @@ pub returns-in-Ok-TooLong-clause-turns : goal.returns-in-Ok-TooLong-clause-turns
 returns-in-Ok-TooLong-clause-turns g c =
     let reads = rw c.in-Ok-TooLong.field-0-is at c.in-Ok-TooLong.ensures.reads in
     turn_long _ _ _ _ _ _ _ c.args.reader.now c.next.new.self c.next.new.self.ahead _ c.complain.result reads c.complain.ensures.written
+
+pub returns-in-Ok-Line-clause-asked : goal.returns-in-Ok-Line-clause-asked
+returns-in-Ok-Line-clause-asked g c =
+    let reads = rw c.in-Ok-Line.field-0-is at c.in-Ok-Line.ensures.reads in
+    asks_read _ _ _ _ _ c.args.reader.now c.next.new.self reads c.answer.ensures.asked

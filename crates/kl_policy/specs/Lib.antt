@@ -3,3 +3,4 @@ pub mod Flat
 pub mod Policy
 pub mod PolicyFields
 pub mod Table
+pub mod Texts

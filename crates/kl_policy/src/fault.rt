@@ -1,5 +1,8 @@
 //! Why a policy could not be read.
 
+ghost use Rattle.std.specs.Prelude.{Some};
+ghost use Rattle.kl_policy.specs.Texts.{fault_text, limit_text, memory_text};
+
 use std::alloc::{AllocError, AllocFailed};
 use std::error::Error;
 use std::fmt;
@@ -16,6 +19,8 @@ pub enum Limit {
 }
 
 impl fmt::Display for Limit {
+    ghost output = { λ limit. Some (limit_text limit) };
+
     fn fmt<W: fmt::Write>(&self, f: &mut fmt::Formatter<W>) -> fmt::Result {
         f.write_str(match self {
             Limit::Paths => "more than 262144 paths",
@@ -38,6 +43,8 @@ pub enum PolicyFault {
 }
 
 impl fmt::Display for PolicyFault {
+    ghost output = { λ fault. Some (fault_text fault) };
+
     fn fmt<W: fmt::Write>(&self, f: &mut fmt::Formatter<W>) -> fmt::Result {
         match self {
             PolicyFault::Line(number) => write!(
@@ -91,6 +98,8 @@ impl From<AllocError> for PolicyFault {
 }
 
 impl fmt::Display for Memory {
+    ghost output = { λ _. Some memory_text };
+
     fn fmt<W: fmt::Write>(&self, f: &mut fmt::Formatter<W>) -> fmt::Result {
         write!(f, "out of memory")
     }

@@ -132,6 +132,49 @@ fn at_most_262144_distinct_paths(rt: HostRuntime) -> Result<(), Fail> {
     Ok(())
 }
 
+#[test]
+fn faults_and_reasons_print_what_is_wrong(rt: HostRuntime) -> Result<(), Fail> {
+    let alloc = rt.alloc();
+    for (fault, text) in [
+        (
+            PolicyFault::Line(0),
+            "line 0 is no digest, two spaces and a path",
+        ),
+        (
+            PolicyFault::Line(262_146),
+            "line 262146 is no digest, two spaces and a path",
+        ),
+        (
+            PolicyFault::Limit(Limit::Paths),
+            "the policy has more than 262144 paths",
+        ),
+        (
+            PolicyFault::Limit(Limit::Patterns),
+            "the policy has more than 32 patterns",
+        ),
+        (
+            PolicyFault::Limit(Limit::PatternBytes),
+            "the policy has a pattern of more than 512 bytes",
+        ),
+        (PolicyFault::Memory, "out of memory"),
+    ] {
+        assert_eq!(rt; fault.to_string(alloc)?.as_str(), text);
+    }
+    for (why, text) in [
+        (Why::Violation, "a violation"),
+        (
+            Why::Inconsistent,
+            "the template hash is not that of the entry's data",
+        ),
+        (Why::Unknown, "no digest is known for the path"),
+        (Why::Digest, "the digest is none of those known for the path"),
+    ] {
+        assert_eq!(rt; why.to_string(alloc)?.as_str(), text);
+    }
+    assert_eq!(rt; Memory.to_string(alloc)?.as_str(), "out of memory");
+    Ok(())
+}
+
 // Threads share a policy.
 fn shared<T: Sync + Send>(_value: &T) {}
 

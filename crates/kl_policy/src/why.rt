@@ -1,5 +1,8 @@
 //! Why an entry is not allowed.
 
+ghost use Rattle.std.specs.Prelude.{Some};
+ghost use Rattle.kl_policy.specs.Texts.{why_text};
+
 use std::fmt;
 
 /// Why a policy does not allow an entry: the first of these that is so.
@@ -16,6 +19,8 @@ pub enum Why {
 }
 
 impl fmt::Display for Why {
+    ghost output = { λ why. Some (why_text why) };
+
     fn fmt<W: fmt::Write>(&self, f: &mut fmt::Formatter<W>) -> fmt::Result {
         f.write_str(match self {
             Why::Violation => "a violation",

@@ -1,13 +1,19 @@
 -- A text lists one map of digests at most, and a text with a bad line lists none.
-use Rattle.std.proofs.Common.{◌≡◌, ◌≢◌, ℕ, suc, ◌<◌, Ok, List, [], ◌∷◌, ◌++◌, length, get_or, refl, sym, ap, subst, ◌∙◌, arith, All, length-append}
+use Rattle.std.proofs.Common.{◌≡◌, ◌≢◌, ℕ, suc, ◌<◌, Result, Ok, Err, List, [], ◌∷◌, ◌++◌, length, get_or, refl, sym, ap, subst, ◌∙◌, arith, All, length-append}
 use Rattle.std.proofs.Math.Seq.{get_or-append_seam}
 use Rattle.std.specs.Cmp.Lexicographic.{nat_list_cmp_total}
+use Rattle.std.specs.Prelude.{IfOk, IfErr}
+use Rattle.std.specs.FinMap as finite_map
 use Rattle.std.specs.FinMap.{same_map, slice_cmp-IsAntisymmetric, nat_cmp-IsAntisymmetric}
 use Rattle.hex.specs.Hex.{decode_of}
 use Rattle.hex.proofs.HexLemmas.{decode_of-same}
 use Rattle.kl_entry.specs.Lines.{lines_of}
 use Rattle.kl_policy.specs.Digests.{DigestMap, Collects}
-use Rattle.kl_policy.specs.Flat.{FlatLine, AreListed, ListsDigests, IsGoodLine, IsFirstBadLine}
+use Rattle.kl_policy.specs.PolicyFields.{PolicyFields}
+use Rattle.kl_policy.specs.Flat.{FlatLine, AreListed, ListsDigests, IsGoodLine, IsFirstBadLine, IsFlatFault, IsReadAs}
+use Rattle.kl_policy.specs.declared.fault.Limit.TheVariants.{Paths, Patterns, PatternBytes}
+use Rattle.kl_policy.specs.declared.fault.PolicyFault.{PolicyFault}
+use Rattle.kl_policy.specs.declared.fault.PolicyFault.TheVariants.{Line, Limit as Over, Memory}
 use Rattle.kl_policy.proofs.FlatLines.{by_spaces, no_space, same_tail}
 use Rattle.kl_policy.proofs.Listing.{good_lines}
 
@@ -71,3 +77,17 @@ pub no_digests : (text : List ℕ) (place : ℕ) (m : DigestMap) → IsFirstBadL
 no_digests text place m fault h =
     let good : All IsGoodLine (fault.before ++ fault.line ∷ fault.after) = subst (All IsGoodLine) fault.cut (good_lines (lines_of text) h.0 h.1) in
     fault.bad (subst IsGoodLine (get_or-append_seam fault.before fault.line fault.after fault.line) (good (length fault.before) fault.line (omega (arith, length-append fault.before (fault.line ∷ fault.after)))))
+
+-- a fault of a text that lists digests is that they have too many paths, or want of memory
+faulted : (text : List ℕ) (fault : PolicyFault) → IsFlatFault text fault → (digests : DigestMap) → ListsDigests text digests → IsReadAs (Err fault) digests
+faulted text (Line place) h digests k = no_digests text place digests h k
+faulted text (Over Paths) h digests k = subst (λ (m : DigestMap). 262144 < finite_map.len m) (digests_same text h.0 digests h.1 k) h.2
+faulted text (Over Patterns) h digests k = h
+faulted text (Over PatternBytes) h digests k = h
+faulted text Memory h digests k = tt
+
+-- so a text that lists digests is read as them
+pub read_as : (text : List ℕ) (r : Result PolicyFields PolicyFault) → IfOk r (λ policy. ListsDigests text policy.digests) → IfErr r (λ fault. IsFlatFault text fault)
+    → (digests : DigestMap) → ListsDigests text digests → IsReadAs r digests
+read_as text (Ok policy) found fault digests k = digests_same text policy.digests digests found k
+read_as text (Err e) found fault digests k = faulted text e fault digests k

@@ -1,10 +1,11 @@
 -- The flat allowlist: a line is a digest in hexadecimal digits, two spaces and a path, as `sha256sum` writes them.
-use Rattle.std.specs.Prelude.{◌≡◌, ℕ, ◌<◌, ◌≤◌, ◌++◌, ◌⊎◌, List, [], ◌∷◌, length, filter, Bool, true, false, All, codes, Ok, ⊤}
+use Rattle.std.specs.Prelude.{◌≡◌, ℕ, ◌<◌, ◌≤◌, ◌++◌, ◌⊎◌, List, [], ◌∷◌, length, filter, Bool, true, false, All, codes, Result, Ok, Err, ⊤}
 use Rattle.std.specs.FinMap as finite_map
 use Rattle.std.specs.List.{AllZip}
 use Rattle.hex.specs.Hex.{decode_of}
 use Rattle.kl_entry.specs.Lines.{lines_of}
 use Rattle.kl_policy.specs.Digests.{DigestMap, Collects}
+use Rattle.kl_policy.specs.PolicyFields.{PolicyFields}
 use Rattle.kl_policy.specs.declared.fault.Limit.TheVariants.{Paths, Patterns, PatternBytes}
 use Rattle.kl_policy.specs.declared.fault.PolicyFault.{PolicyFault}
 use Rattle.kl_policy.specs.declared.fault.PolicyFault.TheVariants.{Line, Limit as Over, Memory}
@@ -67,3 +68,13 @@ IsFlatFault text (Over Paths) = (digests : DigestMap) × ListsDigests text diges
 IsFlatFault text (Over Patterns) = ⊥
 IsFlatFault text (Over PatternBytes) = ⊥
 IsFlatFault text Memory = ⊤
+
+-- what reading made of a text that lists these digests: a policy of them, or the answer that they have too
+-- many paths, unless memory ran out
+abbrev pub IsReadAs : Result PolicyFields PolicyFault → DigestMap → Type 0
+IsReadAs (Ok policy) digests = policy.digests ≡ digests
+IsReadAs (Err (Line place)) digests = ⊥
+IsReadAs (Err (Over Paths)) digests = 262144 < finite_map.len digests
+IsReadAs (Err (Over Patterns)) digests = ⊥
+IsReadAs (Err (Over PatternBytes)) digests = ⊥
+IsReadAs (Err Memory) digests = ⊤

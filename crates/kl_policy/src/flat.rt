@@ -2,7 +2,8 @@
 
 ghost use Rattle.std.specs.Prelude.{◌≡◌, ◌≤◌, false, IfOk, IfErr};
 ghost use Rattle.std.specs.FinMap as finite_map;
-ghost use Rattle.kl_policy.specs.Flat.{ListsDigests, IsFlatFault};
+ghost use Rattle.kl_policy.specs.Digests.{DigestMap};
+ghost use Rattle.kl_policy.specs.Flat.{ListsDigests, IsFlatFault, IsReadAs};
 
 use crate::digests::DigestMap;
 use crate::fault::{Limit, PolicyFault};
@@ -31,6 +32,7 @@ pub fn read_flat(alloc: Global, text: &str) -> Result<Policy, PolicyFault>
     ensures limit { IfOk result (λ policy. finite_map.len policy.digests ≤ MOST_PATHS) }
     ensures violations { IfOk result (λ policy. policy.passes_violations ≡ false) }
     ensures fault { IfErr result (λ fault. IsFlatFault text.now fault) }
+    ensures only { (digests : DigestMap) → ListsDigests text.now digests → IsReadAs result digests }
 {
     let digests = collect(alloc, text)?;
     if digests.len() > MOST_PATHS {

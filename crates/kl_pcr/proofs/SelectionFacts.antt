@@ -10,7 +10,7 @@ use Rattle.std.proofs.lemmas.List.Concat.{flat_map-append}
 use lib.Count.{ones_cat, ones-ones, ones-le}
 use Rattle.kl_bank.specs.declared.bank.Bank.{Bank}
 use Rattle.kl_bank.specs.Banks.{size_of}
-use Rattle.kl_pcr.specs.Values.{IsSelected, is_selected, lower_of, pcrs_below, pcrs_of, value_at}
+use Rattle.kl_pcr.specs.Values.{HaveSize, IsSelected, is_selected, lower_of, pcrs_below, pcrs_of, value_at, values_of}
 
 -- ---- ranges of numbers
 
@@ -116,3 +116,9 @@ value_at-flat_map bank mask f even n below selected =
     ∙ ap (take size) (drop-append_seam lower (f n ++ upper))
     ∙ ap (λ k. take k (f n ++ upper)) (sym (even n))
     ∙ take-append_seam (f n) upper
+
+-- so what is found among values that stand in the order of their PCRs is what the PCR holds
+pub held_at : (bank : Bank) (mask : ℕ) (held : ℕ → List ℕ) → HaveSize bank held → (values : List ℕ) → values ≡ values_of mask held
+    → (n : ℕ) → n < 32 → IsSelected mask n → value_at bank mask values n ≡ held n
+held_at bank mask held even values same n below selected =
+    ap (λ (vs : List ℕ). value_at bank mask vs n) same ∙ value_at-flat_map bank mask held even n below selected

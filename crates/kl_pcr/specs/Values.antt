@@ -1,8 +1,8 @@
 -- The PCR values of a quote. A mask has bit n where PCR n is selected, and the values of the selected PCRs stand
 -- one after the other, the lowest PCR first (TPM 2.0 Library, Part 2, section 10.6, and Part 3, TPM2_Quote).
-use Rattle.std.specs.Prelude.{◌≡◌, ℕ, ◌*◌, ◌%◌, ◌^◌, ◌==◌, Bool, List, take, drop, filter, count_ones}
+use Rattle.std.specs.Prelude.{◌≡◌, ℕ, ◌*◌, ◌%◌, ◌^◌, ◌==◌, Bool, List, length, take, drop, filter, count_ones}
 use Rattle.std.specs.Int.{bit_at}
-use Rattle.std.specs.List.{range_with_len}
+use Rattle.std.specs.List.{range_with_len, flat_map}
 use Rattle.sha2.specs.Sha256.{sha256}
 use Rattle.kl_bank.specs.declared.bank.Bank.{Bank}
 use Rattle.kl_bank.specs.Banks.{extended, hash_of, size_of, zeros_of}
@@ -21,6 +21,14 @@ pcrs_below mask n = filter (is_selected mask) (range_with_len 0 n)
 -- the PCRs of a mask of 32 bits, ascending
 unfoldable pub pcrs_of : ℕ → List ℕ
 pcrs_of mask = pcrs_below mask 32
+
+-- each PCR holds a digest's size of bytes
+abbrev pub HaveSize : Bank → (ℕ → List ℕ) → Type 0
+HaveSize bank held = (n : ℕ) → length (held n) ≡ size_of bank
+
+-- the values of the mask's PCRs, of those that all PCRs hold: one after the other, the lowest PCR first
+abbrev pub values_of : ℕ → (ℕ → List ℕ) → List ℕ
+values_of mask held = flat_map held (pcrs_of mask)
 
 -- how many PCRs of the mask are below n: the bits of the mask below bit n
 abbrev pub lower_of : ℕ → ℕ → ℕ

@@ -1,9 +1,9 @@
 //! What is extended into a PCR, and the value that comes of it.
-ghost use Rattle.std.specs.Prelude.{◌≡◌, ◌+◌, length, All};
-ghost use Rattle.kl_bank.specs.Banks.{hash_of, size_of};
-ghost use Rattle.kl_entry.specs.Entries.{data_of};
+ghost use Rattle.std.specs.Prelude.{◌≡◌, ◌+◌, List, ◌++◌, length, map, All};
+ghost use Rattle.kl_bank.specs.Banks.{hash_of, ones_of, size_of};
+ghost use Rattle.kl_entry.specs.Entries.{EntryFields, data_of};
 ghost use Rattle.kl_pcr.specs.Measured.{measured_of};
-ghost use Rattle.kl_pcr.specs.Replay.{folded};
+ghost use Rattle.kl_pcr.specs.Replay.{folded, replay_of};
 ghost use Rattle.kl_pcr.specs.Values.{binding_of};
 
 use crate::counting::Steps;
@@ -20,7 +20,7 @@ pub fn measured<L: Ledger>(bank: Bank, entry: &Entry<'_>, steps: &mut Steps<L>) 
 {
     steps.tick();
     if violation(entry) {
-        bank.ones()
+        violation_digest(bank)
     } else {
         hash_data(bank, entry)
     }
@@ -41,10 +41,18 @@ pub fn measured_with<L: Ledger>(
 {
     steps.tick();
     if violation(entry) {
-        bank.ones()
+        violation_digest(bank)
     } else {
         bank.hash(laid_out.as_slice())
     }
+}
+
+/// What a violation extends: bytes 0xFF alone, since it has no digest.
+fn violation_digest(bank: Bank) -> Digest
+    ensures value { result ≡ ones_of bank }
+    ensures sized { length result ≡ size_of bank }
+{
+    bank.ones()
 }
 
 /// The digest of the entry's template data, hashed piece by piece.
@@ -73,6 +81,8 @@ pub fn replay(bank: Bank, start: &Digest, with: &[Digest]) -> Digest
     requires start { length start.now ≡ size_of bank }
     requires with { All (λ digest. length digest ≡ size_of bank) with.now }
     ensures value { result ≡ folded bank start.now with.now }
+    ensures entries { (first more : List EntryFields) → start.now ≡ replay_of bank first → with.now ≡ map (measured_of bank) more
+        → result ≡ replay_of bank (first ++ more) }
     ensures sized { length result ≡ size_of bank }
 {
     let mut held = *start;

@@ -1,7 +1,7 @@
 //! The PCR values that a quote is about.
-ghost use Rattle.std.specs.Prelude.{◌≡◌, ◌*◌, ◌<◌, ◌↔◌, IsTrue, IfNone, IfSome, length, count_ones};
+ghost use Rattle.std.specs.Prelude.{◌≡◌, ℕ, ◌*◌, ◌<◌, ◌↔◌, IsTrue, IfNone, IfSome, List, length, count_ones};
 ghost use Rattle.kl_bank.specs.Banks.{size_of};
-ghost use Rattle.kl_pcr.specs.Values.{IsSelected, lower_of, pcr_digest_of, value_at};
+ghost use Rattle.kl_pcr.specs.Values.{HaveSize, IsSelected, lower_of, pcr_digest_of, value_at, values_of};
 
 use kl_bank::{Bank, Digest};
 use sha2::{Digest as _, Sha256};
@@ -20,6 +20,8 @@ pub fn value(bank: Bank, mask: u32, values: &[u8], n: u8) -> Option<Digest>
     requires { length values.now ≡ size_of bank * count_ones mask }
     ensures selected { IfSome result (λ _. IsSelected mask n) }
     ensures value { IfSome result (λ digest. digest ≡ value_at bank mask values.now n) }
+    ensures in_order { (held : ℕ → List ℕ) → HaveSize bank held → values.now ≡ values_of mask held
+        → IfSome result (λ digest. digest ≡ held n) }
     ensures sized { IfSome result (λ digest. length digest ≡ size_of bank) }
     ensures none { IfNone result (¬ (IsSelected mask n)) }
 {

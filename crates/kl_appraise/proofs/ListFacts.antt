@@ -22,7 +22,8 @@ use Rattle.kl_states.specs.declared.verdict.FailedCause.TheVariants.{Pcr, Line, 
 use Rattle.kl_states.specs.declared.verdict.InvalidCause.TheVariants.{Start}
 use Rattle.kl_states.specs.declared.verdict.EntryCause.{EntryCause}
 use Rattle.kl_appraise.specs.Evidence.{HasValues}
-use Rattle.kl_appraise.specs.ListRules.{Case, Outcome, Judged, line_cause, list_limit, WholeList, Replays, IsCut, IsFirstBadLine, ByStart, ByBoot, ByPcr, ByLine, ByListFull, ByUnmatched, ByEntry, ListVerdict}
+use Rattle.kl_appraise.specs.QuoteRules.{◌otherwise◌}
+use Rattle.kl_appraise.specs.ListRules.{Case, Outcome, Judged, line_cause, list_limit, WholeList, Replays, IsCut, IsFirstBadLine, ByStart, ByBoot, ByPcr, ByLine, ByListFull, ByUnmatched, ByEntry, Passes, ListVerdict}
 use Rattle.kl_appraise.specs.Listed.{IsShortest, JudgesEntries}
 use Rattle.kl_appraise.proofs.QuoteFacts.{values_unique}
 
@@ -132,45 +133,36 @@ not_entry c es values n start are has at good o (whole, cut, place, why, is, oth
     subst (λ (x : List EntryFields). IsFirstBad c.terms.policy (take cut x) (Some (place, why))) same bad in
     bad_excluded c.terms.policy (take n es) place why good (subst (λ (k : ℕ). IsFirstBad c.terms.policy (take k es) (Some (place, why))) one moved)
 
--- ---- Which rule is the first
+-- ---- Which rule is the first: one behind those that do not apply
+
+past_boot : (c : Case) (v : Verdict) → c.evidence.start ≡ 0
+    → (ByPcr c otherwise ByLine c otherwise ByListFull c otherwise ByUnmatched c otherwise ByEntry c otherwise Passes c) (Judged v) → ListVerdict c v
+past_boot c v start rest = inr (not_start c start, inr (not_boot c start, rest))
+
+past_pcr : (c : Case) (values : List ℕ) (v : Verdict) → c.evidence.start ≡ 0 → HasValues c.evidence.quote values → IsFirstWrong c.terms.bank c.terms.mask values c.terms.statics None
+    → (ByLine c otherwise ByListFull c otherwise ByUnmatched c otherwise ByEntry c otherwise Passes c) (Judged v) → ListVerdict c v
+past_pcr c values v start has right rest = past_boot c v start (inr (not_pcr c values has right, rest))
+
+past_line : (c : Case) (values : List ℕ) (es : List EntryFields) (v : Verdict) → c.evidence.start ≡ 0 → HasValues c.evidence.quote values → IsFirstWrong c.terms.bank c.terms.mask values c.terms.statics None
+    → AreEntries c.evidence.list es → (ByListFull c otherwise ByUnmatched c otherwise ByEntry c otherwise Passes c) (Judged v) → ListVerdict c v
+past_line c values es v start has right are rest = past_pcr c values v start has right (inr (not_line c es are, rest))
 
 pub by_start : (c : Case) → c.evidence.start ≢ 0 → c.evidence.start ≢ c.from → ListVerdict c (Invalid Start)
 by_start c other also = inl (other, also, refl)
 
 pub by_pcr : (c : Case) (values : List ℕ) (n : ℕ) → c.evidence.start ≡ 0 → HasValues c.evidence.quote values → IsFirstWrong c.terms.bank c.terms.mask values c.terms.statics (Some n) → ListVerdict c (Failed (Pcr n))
-by_pcr c values n start has wrong = inr (not_start c start, inr (not_boot c start, inl (values, n, has, wrong, refl)))
+by_pcr c values n start has wrong = past_boot c (Failed (Pcr n)) start (inl (values, n, has, wrong, refl))
 
 pub by_line : (c : Case) (values : List ℕ) (place : ℕ) (f : LineFault) → c.evidence.start ≡ 0 → HasValues c.evidence.quote values → IsFirstWrong c.terms.bank c.terms.mask values c.terms.statics None
     → IsFirstBadLine c.evidence.list place f → ListVerdict c (Failed (Line place (line_cause f)))
 by_line c values place f start has right bad =
     let at : place ≡ c.evidence.start + place = omega arith in
-    inr (
-      not_start c start,
-      inr (
-        not_boot c start,
-        inr (
-          not_pcr c values has right,
-          inl (place, f, bad, ap (λ (n : ℕ). Judged (Failed (Line n (line_cause f)))) at),
-        ),
-      ),
-    )
+    past_pcr c values (Failed (Line place (line_cause f))) start has right (inl (place, f, bad, ap (λ (n : ℕ). Judged (Failed (Line n (line_cause f)))) at))
 
 pub by_full : (c : Case) (values : List ℕ) (es : List EntryFields) → c.evidence.start ≡ 0 → HasValues c.evidence.quote values → IsFirstWrong c.terms.bank c.terms.mask values c.terms.statics None
     → AreEntries c.evidence.list es → list_limit < length es → ListVerdict c (Failed ListFull)
 by_full c values es start has right are over =
-    inr (
-      not_start c start,
-      inr (
-        not_boot c start,
-        inr (
-          not_pcr c values has right,
-          inr (
-            not_line c es are,
-            inl (omega (arith, line_count c.evidence.list es are), refl),
-          ),
-        ),
-      ),
-    )
+    past_line c values es (Failed ListFull) start has right are (inl (omega (arith, line_count c.evidence.list es are), refl))
 
 -- the verdict on the entries is the outcome, where no rule before the three that give it applies
 pub by_entries : (c : Case) (values : List ℕ) (es : List EntryFields) (v : Verdict) → c.evidence.start ≡ 0 → HasValues c.evidence.quote values
@@ -179,71 +171,19 @@ pub by_entries : (c : Case) (values : List ℕ) (es : List EntryFields) (v : Ver
 by_entries c values es (Pass n) start has right are short (shortest, good) =
     let cut = cut_from c es values n start has shortest in
     let whole = whole_from c es start are in
-    inr (
-      not_start c start,
-      inr (
-        not_boot c start,
-        inr (
-          not_pcr c values has right,
-          inr (
-            not_line c es are,
-            inr (
-              not_full c es start are short,
-              inr (
-                not_unmatched c es n whole cut,
-                inr (
-                  not_entry c es values n start are has cut good,
-                  (es, n, whole, cut, refl),
-                ),
-              ),
-            ),
-          ),
-        ),
-      ),
-    )
+    past_line c values es (Pass n) start has right are
+    (inr (not_full c es start are short, inr (not_unmatched c es n whole cut, inr (not_entry c es values n start are has cut good, (es, n, whole, cut, refl)))))
 by_entries c values es (Failed Unmatched) start has right are short none =
     let unmatched : (whole : List EntryFields) (cut : ℕ) → WholeList c whole → ¬ (IsCut c whole cut) =
     λ whole cut is at.
     let here : IsCut c es cut = subst (λ (x : List EntryFields). IsCut c x cut) (whole_is c es whole start are is) at in
     none cut here.place.some here.place.inside (here.replays values has) in
-    inr (
-      not_start c start,
-      inr (
-        not_boot c start,
-        inr (
-          not_pcr c values has right,
-          inr (
-            not_line c es are,
-            inr (
-              not_full c es start are short,
-              inl (unmatched, refl),
-            ),
-          ),
-        ),
-      ),
-    )
+    past_line c values es (Failed Unmatched) start has right are (inr (not_full c es start are short, inl (unmatched, refl)))
 by_entries c values es (Failed (Entry place cause)) start has right are short (n, why, shortest, bad, is) =
     let cut = cut_from c es values n start has shortest in
     let whole = whole_from c es start are in
-    inr (
-      not_start c start,
-      inr (
-        not_boot c start,
-        inr (
-          not_pcr c values has right,
-          inr (
-            not_line c es are,
-            inr (
-              not_full c es start are short,
-              inr (
-                not_unmatched c es n whole cut,
-                inl (es, n, place, why, whole, cut, bad, ap (λ (x : EntryCause). Judged (Failed (Entry place x))) is),
-              ),
-            ),
-          ),
-        ),
-      ),
-    )
+    let entry : ByEntry c (Judged (Failed (Entry place cause))) = (es, n, place, why, whole, cut, bad, ap (λ (x : EntryCause). Judged (Failed (Entry place x))) is) in
+    past_line c values es (Failed (Entry place cause)) start has right are (inr (not_full c es start are short, inr (not_unmatched c es n whole cut, inl entry)))
 by_entries c values es (Failed (Pcr _)) start has right are short none = absurd none
 by_entries c values es (Failed (Line _ _)) start has right are short none = absurd none
 by_entries c values es (Failed ListFull) start has right are short none = absurd none

@@ -9,13 +9,12 @@ use Rattle.std.specs.List.{concat}
 use Rattle.kl_bank.specs.declared.bank.Bank.{Bank}
 use Rattle.kl_pcr.specs.declared.statics.Static.{Static}
 use Rattle.kl_pcr.specs.Statics.{AreStatics}
-use Rattle.kl_entry.proofs.FirstFailing.{one_place}
 use Rattle.kl_keys.specs.Relations.{Relations}
 use Rattle.kl_policy.specs.Digests.{DigestMap}
-use Rattle.kl_policy.specs.Flat.{IsGoodLine, IsFirstBadLine, ListsDigests}
+use Rattle.kl_policy.specs.Flat.{ListsDigests}
 use Rattle.kl_policy.specs.PolicyFields.{PolicyFields}
 use Rattle.kl_policy.specs.declared.kind.PolicyKind.{PolicyKind}
-use Rattle.kl_policy.proofs.OnePolicy.{digests_same, no_digests}
+use Rattle.kl_policy.proofs.OnePolicy.{digests_same, no_digests, one_bad_line}
 use Rattle.kl_quote.specs.Size.{total_bytes}
 use Rattle.kl_quote.specs.declared.evidence.Evidence.{Evidence}
 use Rattle.kl_quote.specs.declared.evidence.TheConstants.{EVIDENCE_LIMIT}
@@ -73,10 +72,6 @@ not_refused a t PolicyPaths named are (digests, listed, many) = not_many a.polic
 not_refused a t Mask named are (p, is, other) = other (subst IsMask named.mask are.mask)
 not_refused a t StaticPcrs named are (p, is, mask, other) =
     other (statics_at t.bank a.bank t.mask a.mask t.statics a.statics named.bank named.mask named.statics are.statics)
-
-one_bad_line : (lines : List (List ℕ)) (p q : ℕ) → IsFirstBadLine lines p → IsFirstBadLine lines q → p ≡ q
-one_bad_line lines p q f g =
-    sym f.counted ∙ one_place IsGoodLine f.before f.after g.before g.after f.line g.line (sym f.cut ∙ g.cut) f.good g.good f.bad g.bad ∙ g.counted
 
 one_refusal : (a : AddFields) (x y : Refusal) → IsRefusal a x → IsRefusal a y → x ≡ y
 one_refusal a (PolicyLine p) (PolicyLine q) f g = ap PolicyLine (one_bad_line _ p q f g)

@@ -8,9 +8,10 @@ use Rattle.std.specs.FinMap.{same_map, slice_cmp-IsAntisymmetric, nat_cmp-IsAnti
 use Rattle.hex.specs.Hex.{decode_of}
 use Rattle.hex.proofs.HexLemmas.{decode_of-same}
 use Rattle.kl_entry.specs.Lines.{lines_of}
+use Rattle.kl_entry.proofs.FirstFailing.{one_place}
 use Rattle.kl_policy.specs.Digests.{DigestMap, Collects}
 use Rattle.kl_policy.specs.PolicyFields.{PolicyFields}
-use Rattle.kl_policy.specs.Flat.{FlatLine, AreListed, ListsDigests, IsGoodLine, IsFirstBadLine, IsFlatFault, IsReadAs}
+use Rattle.kl_policy.specs.Flat.{FlatLine, AreListed, ListsDigests, IsGoodLine, IsFirstBadLine, IsFlatFault, IsReadAs, IsRefusedAt}
 use Rattle.kl_policy.specs.declared.fault.Limit.TheVariants.{Paths, Patterns, PatternBytes}
 use Rattle.kl_policy.specs.declared.fault.PolicyFault.{PolicyFault}
 use Rattle.kl_policy.specs.declared.fault.PolicyFault.TheVariants.{Line, Limit as Over, Memory}
@@ -72,6 +73,11 @@ digests_same text m n h k =
     let at : Collects k.0 m = subst (λ all. Collects all m) pairs h.2 in
     same_map nat_list_cmp_total (slice_cmp-IsAntisymmetric nat_cmp-IsAntisymmetric) m n (λ path. at path ∙ sym (k.2 path))
 
+-- one line is the first bad one
+pub one_bad_line : (lines : List (List ℕ)) (p q : ℕ) → IsFirstBadLine lines p → IsFirstBadLine lines q → p ≡ q
+one_bad_line lines p q f g =
+    sym f.counted ∙ one_place IsGoodLine f.before f.after g.before g.after f.line g.line (sym f.cut ∙ g.cut) f.good g.good f.bad g.bad ∙ g.counted
+
 -- a text with a bad line lists none
 pub no_digests : (text : List ℕ) (place : ℕ) (m : DigestMap) → IsFirstBadLine (lines_of text) place → ListsDigests text m → ⊥
 no_digests text place m fault h =
@@ -91,3 +97,13 @@ pub read_as : (text : List ℕ) (r : Result PolicyFields PolicyFault) → IfOk r
     → (digests : DigestMap) → ListsDigests text digests → IsReadAs r digests
 read_as text (Ok policy) found fault digests k = digests_same text policy.digests digests found k
 read_as text (Err e) found fault digests k = faulted text e fault digests k
+
+-- and a text with a bad line is refused for the first one
+pub refused_at : (text : List ℕ) (r : Result PolicyFields PolicyFault) → IfOk r (λ policy. ListsDigests text policy.digests) → IfErr r (λ fault. IsFlatFault text fault)
+    → (place : ℕ) → IsFirstBadLine (lines_of text) place → IsRefusedAt r place
+refused_at text (Ok policy) found fault place bad = no_digests text place policy.digests bad found
+refused_at text (Err (Line other)) found fault place bad = one_bad_line (lines_of text) other place fault bad
+refused_at text (Err (Over Paths)) found fault place bad = no_digests text place fault.0 bad fault.1
+refused_at text (Err (Over Patterns)) found fault place bad = fault
+refused_at text (Err (Over PatternBytes)) found fault place bad = fault
+refused_at text (Err Memory) found fault place bad = tt

@@ -78,3 +78,10 @@ IsReadAs (Err (Over Paths)) digests = 262144 < finite_map.len digests
 IsReadAs (Err (Over Patterns)) digests = ⊥
 IsReadAs (Err (Over PatternBytes)) digests = ⊥
 IsReadAs (Err Memory) digests = ⊤
+
+-- what reading made of a text whose first bad line is this: the answer which that is, unless memory ran out
+abbrev pub IsRefusedAt : Result PolicyFields PolicyFault → ℕ → Type 0
+IsRefusedAt (Ok policy) place = ⊥
+IsRefusedAt (Err (Line found)) place = found ≡ place
+IsRefusedAt (Err (Over limit)) place = ⊥
+IsRefusedAt (Err Memory) place = ⊤

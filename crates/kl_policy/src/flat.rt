@@ -1,9 +1,10 @@
 //! Flat policies.
 
-ghost use Rattle.std.specs.Prelude.{◌≡◌, ◌≤◌, false, IfOk, IfErr};
+ghost use Rattle.std.specs.Prelude.{◌≡◌, ◌≤◌, ℕ, false, IfOk, IfErr};
 ghost use Rattle.std.specs.FinMap as finite_map;
 ghost use Rattle.kl_policy.specs.Digests.{DigestMap};
-ghost use Rattle.kl_policy.specs.Flat.{ListsDigests, IsFlatFault, IsReadAs};
+ghost use Rattle.kl_policy.specs.Flat.{ListsDigests, IsFirstBadLine, IsFlatFault, IsReadAs, IsRefusedAt};
+ghost use Rattle.kl_entry.specs.Lines.{lines_of};
 
 use crate::digests::DigestMap;
 use crate::fault::{Limit, PolicyFault};
@@ -33,6 +34,7 @@ pub fn read_flat(alloc: Global, text: &str) -> Result<Policy, PolicyFault>
     ensures violations { IfOk result (λ policy. policy.passes_violations ≡ false) }
     ensures fault { IfErr result (λ fault. IsFlatFault text.now fault) }
     ensures only { (digests : DigestMap) → ListsDigests text.now digests → IsReadAs result digests }
+    ensures alone { (place : ℕ) → IsFirstBadLine (lines_of text.now) place → IsRefusedAt result place }
 {
     let digests = collect(alloc, text)?;
     if digests.len() > MOST_PATHS {

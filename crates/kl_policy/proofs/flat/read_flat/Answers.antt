@@ -2,7 +2,7 @@
 use Rattle.std.proofs.Common.{◌<◌, rules, subst, ◌∙◌, arith}
 use Rattle.std.specs.FinMap as finite_map
 use Rattle.kl_policy.specs.Digests.{DigestMap}
-use Rattle.kl_policy.proofs.OnePolicy.{digests_same, read_as}
+use Rattle.kl_policy.proofs.OnePolicy.{digests_same, no_digests, read_as, refused_at}
 use Rattle.kl_policy.proofs.flat.read_flat.Goals as goal
 
 pub returns-then-len-gt-MOST_PATHS-clause-fault : goal.returns-then-len-gt-MOST_PATHS-clause-fault
@@ -19,3 +19,14 @@ returns-then-len-gt-MOST_PATHS-clause-only c digests listed =
 pub returns-clause-only : goal.returns-clause-only
 returns-clause-only c digests listed =
     c.of.ensures.digests ∙ digests_same c.args.text.now c.in_ok-digests.digests digests c.in_ok-digests.ensures.digests listed
+
+pub returns-in_err-digests-clause-alone : goal.returns-in_err-digests-clause-alone
+returns-in_err-digests-clause-alone c = refused_at c.args.text.now c.from_residual.result (search rules) (search rules)
+
+pub returns-then-len-gt-MOST_PATHS-clause-alone : goal.returns-then-len-gt-MOST_PATHS-clause-alone
+returns-then-len-gt-MOST_PATHS-clause-alone c place bad =
+    no_digests c.args.text.now place c.in_ok-digests.digests bad c.in_ok-digests.ensures.digests
+
+pub returns-clause-alone : goal.returns-clause-alone
+returns-clause-alone c place bad =
+    no_digests c.args.text.now place c.in_ok-digests.digests bad c.in_ok-digests.ensures.digests

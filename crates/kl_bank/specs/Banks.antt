@@ -36,11 +36,12 @@ name_of Sha384 = codes "sha384"
 abbrev pub zeros_of : Bank → List ℕ
 zeros_of bank = replicate (size_of bank) 0
 
--- what stands in a PCR for a measurement that could not be taken: bytes 0xFF alone
+-- what a PCR is extended by for what Linux IMA calls a violation, a file that could change while it was measured:
+-- bytes 0xFF alone
 abbrev pub ones_of : Bank → List ℕ
 ones_of bank = replicate (size_of bank) 0xFF
 
--- a PCR with the value `old` after it was extended by the digest `with` (TPM 2.0 Library, Part 1, section 17.2):
+-- a PCR with the value `old` after it was extended by the digest `added` (TPM 2.0 Library, Part 1, section 17.2):
 -- the digest of the two, one after the other
 abbrev pub extended : Bank → List ℕ → List ℕ → List ℕ
 extended bank old added = hash_of bank (old ++ added)

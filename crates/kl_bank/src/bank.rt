@@ -84,7 +84,8 @@ impl Bank {
         Digest::of(&[0; 48][..self.size()])
     }
 
-    /// The digest whose bytes are all 0xFF, which stands for a measurement that could not be taken.
+    /// The digest whose bytes are all 0xFF: what a PCR is extended by for what Linux IMA calls a violation,
+    /// a file that could change while it was measured.
     pub fn ones(self) -> Digest
         ensures value { result ≡ ones_of self }
         ensures sized { length result ≡ size_of self }

@@ -88,6 +88,8 @@ pub fn read_quote(alloc: Global, text: &str) -> Result<Quote, QuoteFault>
     ensures found { IfOk result (λ q. IsQuoteText text.now q.attest q.signature q.pcrs) }
     ensures only { (attest signature values : List ℕ) → IsQuoteText text.now attest signature values → ReadsAs result attest signature values }
     ensures fault { (part : ℕ) → result ≡ Err (QuoteFault.Form part) → IsFormFault text.now part }
+    // A text that lacks the form is told so, whatever memory is left.
+    ensures formless { ¬ HasForm text.now → result ≡ Err (QuoteFault.Form 0) }
 {
     let Some(parts) = parts_of(text) else {
         return Err(QuoteFault::Form(0));

@@ -1,5 +1,5 @@
 use Rattle.std.proofs.Common.{rules}
-use Rattle.kl_quote.proofs.Splitting.{quote_faultless, quote_unique, only_from}
+use Rattle.kl_quote.proofs.Splitting.{parts_form, quote_faultless, quote_unique, only_from}
 use Rattle.kl_quote.proofs.quote.read_quote.Goals as goal
 
 pub returns-in_default-clause-only : goal.returns-in_default-clause-only
@@ -21,3 +21,15 @@ returns-in_err-pcrs-clause-only c =
 pub returns-clause-only : goal.returns-clause-only
 returns-clause-only c attest signature values quote =
     quote_unique c.args.text.now c.in_ok-attest.attest c.in_ok-signature.signature c.in_ok-pcrs.pcrs attest signature values (search rules) quote
+
+pub returns-in_err-attest-clause-formless : goal.returns-in_err-attest-clause-formless
+returns-in_err-attest-clause-formless c = λ no. absurd (no (parts_form c.args.text.now _ _ _ c.in-Some.ensures.parts))
+
+pub returns-in_err-signature-clause-formless : goal.returns-in_err-signature-clause-formless
+returns-in_err-signature-clause-formless c = λ no. absurd (no (parts_form c.args.text.now _ _ _ c.in-Some.ensures.parts))
+
+pub returns-in_err-pcrs-clause-formless : goal.returns-in_err-pcrs-clause-formless
+returns-in_err-pcrs-clause-formless c = λ no. absurd (no (parts_form c.args.text.now _ _ _ c.in-Some.ensures.parts))
+
+pub returns-clause-formless : goal.returns-clause-formless
+returns-clause-formless c = λ no. absurd (no (parts_form c.args.text.now _ _ _ c.in-Some.ensures.parts))

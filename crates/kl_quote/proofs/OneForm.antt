@@ -1,9 +1,15 @@
 -- A text has one fault at most, and where it has none it is the text of a quote.
 use Rattle.std.proofs.Common.{◌≡◌, ◌≢◌, ℕ, zero, suc, ◌+◌, ◌<◌, ◌≤◌, List, [], ◌∷◌, ◌++◌, codes, refl, sym, ap, ◌∙◌, subst, arith, inl, inr}
 use Rattle.std.proofs.lemmas.Bool.{cases_lt, cases_eq}
-use Rattle.kl_quote.specs.QuoteText.{base64, colons, text_of_parts, HasForm, AreParts, IsBase64, IsQuoteText, IsFormFault}
+use Rattle.std.specs.Result.{IfOk}
+use Rattle.std.specs.declared.result.Result.{Result}
+use Rattle.std.specs.declared.result.Result.TheVariants.{Ok, Err}
+use Rattle.kl_quote.specs.declared.quote.Quote.{Quote}
+use Rattle.kl_quote.specs.declared.quote.QuoteFault.{QuoteFault}
+use Rattle.kl_quote.specs.declared.quote.QuoteFault.TheVariants.{Form, Memory}
+use Rattle.kl_quote.specs.QuoteText.{base64, colons, text_of_parts, HasForm, AreParts, IsBase64, IsQuoteText, IsFormFault, FailsAs}
 use Rattle.kl_quote.proofs.Colons.{colons_after, colons_other}
-use Rattle.kl_quote.proofs.Splitting.{colons_behind_r, colons_cut, grouped, parts_form, parts_unique}
+use Rattle.kl_quote.proofs.Splitting.{colons_behind_r, colons_cut, grouped, parts_form, parts_unique, quote_faultless}
 
 -- ---- one fault at most
 
@@ -49,6 +55,13 @@ one_form_fault text p q f g =
         | inr also ↦ omega (arith, reached, also)
       ]
     ]
+
+-- what reading answered about a text with a fault, if it answers no other quote and no false fault
+pub alone_from : (text : List ℕ) (r : Result Quote QuoteFault) → IfOk r (λ q. IsQuoteText text q.attest q.signature q.pcrs)
+    → ((part : ℕ) → r ≡ Err (Form part) → IsFormFault text part) → (part : ℕ) → IsFormFault text part → FailsAs r part
+alone_from text (Ok q) found fault part bad = quote_faultless text q.attest q.signature q.pcrs part found bad
+alone_from text (Err (Form other)) found fault part bad = one_form_fault text other part (fault other refl) bad
+alone_from text (Err Memory) found fault part bad = tt
 
 -- ---- a text without a fault
 

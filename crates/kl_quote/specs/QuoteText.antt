@@ -80,3 +80,9 @@ ReadsAs (Ok q) attest signature values =
     (q.attest ≡ attest) × (q.signature ≡ signature) × (q.pcrs ≡ values)
 ReadsAs (Err Memory) attest signature values = Unit {0}
 ReadsAs (Err (Form part)) attest signature values = ⊥
+
+-- a text with this fault was answered by it, unless memory ran out
+abbrev pub FailsAs : Result Quote QuoteFault → ℕ → Type 0
+FailsAs (Ok q) part = ⊥
+FailsAs (Err Memory) part = Unit {0}
+FailsAs (Err (Form found)) part = found ≡ part

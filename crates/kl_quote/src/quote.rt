@@ -1,7 +1,7 @@
 //! The text of a quote, read and written.
 ghost use Rattle.std.specs.Prelude.{◌≡◌, ℕ, List, ◌∷◌, ◌++◌, IfOk, IfSome, IfNone};
 ghost use Rattle.std.specs.String.{string_bytes};
-ghost use Rattle.kl_quote.specs.QuoteText.{quote_text, colons, HasForm, AreParts, IsBase64, IsBase64Of, IsQuoteText, IsFormFault, ReadsAs};
+ghost use Rattle.kl_quote.specs.QuoteText.{quote_text, colons, HasForm, AreParts, IsBase64, IsBase64Of, IsQuoteText, IsFormFault, FailsAs, ReadsAs};
 
 use crate::memory::Memory;
 use base64::DecodeAllocError;
@@ -88,6 +88,8 @@ pub fn read_quote(alloc: Global, text: &str) -> Result<Quote, QuoteFault>
     ensures found { IfOk result (λ q. IsQuoteText text.now q.attest q.signature q.pcrs) }
     ensures only { (attest signature values : List ℕ) → IsQuoteText text.now attest signature values → ReadsAs result attest signature values }
     ensures fault { (part : ℕ) → result ≡ Err (QuoteFault.Form part) → IsFormFault text.now part }
+    // A text with a fault is answered by that one, unless memory ran out.
+    ensures alone { (part : ℕ) → IsFormFault text.now part → FailsAs result part }
     // A text that lacks the form is told so, whatever memory is left.
     ensures formless { ¬ HasForm text.now → result ≡ Err (QuoteFault.Form 0) }
 {

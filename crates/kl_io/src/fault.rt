@@ -1,6 +1,6 @@
 //! Why a call did not do its work.
 
-ghost use Rattle.std.specs.Prelude.{⊤};
+ghost use Rattle.std.specs.Prelude.{⊤, Some, codes};
 
 use std::alloc::{AllocError, AllocFailed};
 use std::error::Error;
@@ -11,8 +11,10 @@ use std::fmt;
 pub struct Failed;
 
 impl fmt::Display for Failed {
+    ghost output = { λ _. Some (codes "input or output failed") };
+
     fn fmt<W: fmt::Write>(&self, f: &mut fmt::Formatter<W>) -> fmt::Result {
-        write!(f, "input or output failed")
+        f.write_str("input or output failed")
     }
 }
 
@@ -23,8 +25,10 @@ impl Error for Failed {}
 pub struct Memory;
 
 impl fmt::Display for Memory {
+    ghost output = { λ _. Some (codes "out of memory") };
+
     fn fmt<W: fmt::Write>(&self, f: &mut fmt::Formatter<W>) -> fmt::Result {
-        write!(f, "out of memory")
+        f.write_str("out of memory")
     }
 }
 

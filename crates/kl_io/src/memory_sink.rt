@@ -49,6 +49,10 @@ impl MemSink {
         ensures fails { IfOk result (λ s. s.fails ≡ fails.now) }
         ensures no_call { IfOk result (λ s. s.calls ≡ 0) }
         ensures no_fault { IfOk result (λ s. s.faults ≡ 0) }
+
+        // As a `Sink` it tells that it holds nothing, and no fault.
+        ensures tells { IfOk result (λ s. ⟦<MemSink as Sink>⟧.held s ≡ Some []) }
+        ensures counts { IfOk result (λ s. ⟦<MemSink as Sink>⟧.fault_count s ≡ 0) }
     {
         let script = Script::new(alloc, fails)?;
         Ok(MemSink {
@@ -75,7 +79,9 @@ impl Sink for MemSink {
 
     ghost place = { λ _. 0 };
 
-    fn faults(&self) -> u64 {
+    fn faults(&self) -> u64
+        ensures { result ≡ self.now.faults }
+    {
         self.script.faults
     }
 

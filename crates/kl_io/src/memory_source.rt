@@ -48,6 +48,10 @@ impl MemSource {
         ensures fails { IfOk result (λ s. s.fails ≡ fails.now) }
         ensures no_call { IfOk result (λ s. s.calls ≡ 0) }
         ensures no_fault { IfOk result (λ s. s.faults ≡ 0) }
+
+        // As a `Source` it tells its content and no fault.
+        ensures tells { IfOk result (λ s. ⟦<MemSource as Source>⟧.left s ≡ Some content.items) }
+        ensures counts { IfOk result (λ s. ⟦<MemSource as Source>⟧.fault_count s ≡ 0) }
     {
         Ok(MemSource {
             content,
@@ -66,7 +70,9 @@ impl Source for MemSource {
 
     ghost place = { λ _. 0 };
 
-    fn faults(&self) -> u64 {
+    fn faults(&self) -> u64
+        ensures { result ≡ self.now.faults }
+    {
         self.script.faults
     }
 

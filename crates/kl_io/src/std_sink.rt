@@ -23,6 +23,10 @@ impl<W: Write> StdSink<W> {
     pub fn new(inner: W) -> StdSink<W>
         ensures writer { writer_of result ≡ inner }
         ensures no_fault { sink_faults result ≡ 0 }
+
+        // As a `Sink` it tells what the writer tells, and no fault.
+        ensures tells { ⟦<StdSink<W> as Sink>⟧.held result ≡ W.contents inner }
+        ensures counts { ⟦<StdSink<W> as Sink>⟧.fault_count result ≡ 0 }
     {
         StdSink { inner, faults: 0 }
     }
@@ -37,7 +41,9 @@ impl<W: Write> Sink for StdSink<W> {
 
     ghost place = { λ _. 0 };
 
-    fn faults(&self) -> u64 {
+    fn faults(&self) -> u64
+        ensures { result ≡ sink_faults self.now }
+    {
         self.faults
     }
 

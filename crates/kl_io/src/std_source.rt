@@ -24,6 +24,10 @@ impl<R: Read> StdSource<R> {
     pub fn new(inner: R) -> StdSource<R>
         ensures reader { reader_of result ≡ inner }
         ensures no_fault { source_faults result ≡ 0 }
+
+        // As a `Source` it tells what the reader tells, and no fault.
+        ensures tells { ⟦<StdSource<R> as Source>⟧.left result ≡ R.remaining inner }
+        ensures counts { ⟦<StdSource<R> as Source>⟧.fault_count result ≡ 0 }
     {
         StdSource { inner, faults: 0 }
     }
@@ -38,7 +42,9 @@ impl<R: Read> Source for StdSource<R> {
 
     ghost place = { λ _. 0 };
 
-    fn faults(&self) -> u64 {
+    fn faults(&self) -> u64
+        ensures { result ≡ source_faults self.now }
+    {
         self.faults
     }
 

@@ -112,3 +112,38 @@ fn errors_of_std_are_counted_faults(rt: HostRuntime) {
         assert_eq!(rt; sink.faults(), faults);
     }
 }
+
+/// A reader whose first read alone fails.
+#[derive(Drop)]
+struct FailsOnce {
+    failed: bool,
+}
+
+impl Read for FailsOnce {
+    fn read(&mut self, buf: &mut [u8]) -> io::Result<usize> {
+        if !self.failed {
+            self.failed = true;
+            return Err(io::Error::from(ErrorKind::Interrupted));
+        }
+        Ok(buf.len().min(2))
+    }
+}
+
+#[test]
+fn a_read_that_failed_is_not_tried_again(rt: HostRuntime) {
+    let mut source = StdSource::new(FailsOnce { failed: false });
+    let mut buf = [0u8; 4];
+    assert_eq!(rt; source.read(&mut buf), Err(Failed));
+    assert_eq!(rt; source.faults(), 1);
+    assert_eq!(rt; source.read(&mut buf), Ok(2));
+    assert_eq!(rt; source.faults(), 1);
+}
+
+#[test]
+fn the_errors_print_why(rt: HostRuntime) -> Result<(), Fail> {
+    let shown = Failed.to_string(rt.alloc())?;
+    assert_eq!(rt; shown.as_str(), "input or output failed");
+    let shown = Memory.to_string(rt.alloc())?;
+    assert_eq!(rt; shown.as_str(), "out of memory");
+    Ok(())
+}

@@ -1,13 +1,7 @@
--- What a count of faults says about an answer.
-use Rattle.std.specs.Prelude.{ℕ, ◌+◌, ◌-◌, ◌^◌, ◌≤◌, min}
-
--- one more, in 64 bits: a count at its end stays there
-abbrev pub more : ℕ → ℕ
-more n = min (n + 1) (2 ^ 64 - 1)
-
--- the count rose, or stands at its end
-abbrev pub Rose : ℕ → ℕ → Type 0
-Rose before now = more before ≤ now
+-- What a count of faults says about an answer. What it is to rise is said once, by `kl_io`; a fault of keys can be one
+-- error of several, and so `HasCause` here takes the fact that the answer is a fault, and not the answer.
+pub use Rattle.kl_io.specs.Causes.{one_more, Rose}
+use Rattle.std.specs.Prelude.{ℕ, ◌≤◌}
 
 -- The count did not fall, and where the call answers a fault it rose.
 pub record HasCause (before now : ℕ) (Fault : Type 0) : Type 0 where

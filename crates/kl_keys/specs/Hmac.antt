@@ -16,12 +16,12 @@ masked_by pad bytes = map (λ b. bit_xor b pad) bytes
 abbrev pub block_key : (List ℕ → List ℕ) → ℕ → List ℕ → List ℕ
 block_key hash block key = filled_to block (if nat_lt block (length key) then hash key else key)
 
--- ipad is the byte 0x36, opad the byte 0x5C
+-- the bytes ipad and opad
 abbrev pub inner_pad : ℕ
-inner_pad = 54
+inner_pad = 0x36
 
 abbrev pub outer_pad : ℕ
-outer_pad = 92
+outer_pad = 0x5C
 
 -- the value under a key that fills a block
 abbrev pub keyed_hash : (List ℕ → List ℕ) → List ℕ → List ℕ → List ℕ

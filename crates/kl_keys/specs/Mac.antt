@@ -3,7 +3,7 @@ use Rattle.std.specs.Prelude.{ℕ, List, Contains}
 use Rattle.std.specs.Str.{bytes_eq}
 use Rattle.kl_keys.specs.Hmac.{hmac256_of}
 use Rattle.kl_keys.specs.Relations.{Relations}
-use Rattle.kl_keys.specs.Causes.{more}
+use Rattle.kl_keys.specs.Causes.{one_more}
 
 -- a signature is the HMAC-SHA-256 value of the message under the key
 abbrev pub mac_relations : Relations
@@ -20,11 +20,11 @@ pub record Session : Type 0 where
 
 -- the next call, numbered from 1, is a listed one
 abbrev pub FailsNext : Session → Type 0
-FailsNext s = Contains s.listed (more s.calls)
+FailsNext s = Contains s.listed (one_more s.calls)
 
 -- one more call, that did not fail or that did
 abbrev pub after_call : Session → Session
-after_call s = record s { calls = more s.calls }
+after_call s = record s { calls = one_more s.calls }
 
 abbrev pub after_fault : Session → Session
-after_fault s = record s { calls = more s.calls; faults = more s.faults }
+after_fault s = record s { calls = one_more s.calls; faults = one_more s.faults }

@@ -1,3 +1,5 @@
+//! What the verifier asks of keys.
+
 ghost use Rattle.std.specs.Prelude.{◌≡◌, ℕ, IfOk, IsErr, IsErrOf};
 ghost use Rattle.std.specs.declared.option.Option.{Option};
 ghost use Rattle.kl_keys.specs.Relations.{Relations, Answers, AnswersSign};
@@ -20,6 +22,9 @@ pub trait Keys {
         ensures { result ≡ fault_count self.now };
 
     /// Whether the signature is the key's, of this message.
+    ///
+    /// # Errors
+    /// [`KeysFault`] where the keys met a fault in this call.
     fn verify(&mut self, key: &[u8], message: &[u8], signature: &[u8]) -> Result<bool, KeysFault>
         ensures answer { IfOk result
             (λ yes. Answers (told self.old) key.now message.now signature.now yes) }
@@ -27,6 +32,10 @@ pub trait Keys {
         ensures cause { HasCause (fault_count self.old) (fault_count self.new) (IsErr result) };
 
     /// The key's signature of this message.
+    ///
+    /// # Errors
+    /// [`KeysError::Fault`] where the keys met a fault in this call, [`KeysError::Memory`] where there is no
+    /// memory for the signature.
     fn sign(&mut self, alloc: Global, key: &[u8], message: &[u8]) -> Result<Vec<u8>, KeysError>
         ensures answer { IfOk result
             (λ signature. AnswersSign (told self.old) key.now message.now signature.items) }

@@ -1,3 +1,5 @@
+//! Keys in memory.
+
 ghost use Rattle.std.specs.Prelude.{◌≡◌, ◌↔◌, IfOk, IsErr, IsErrOf, OnOk, OnErr, IsTrue, Some, Contains};
 ghost use Rattle.kl_keys.specs.Hmac.{hmac256_of};
 ghost use Rattle.kl_keys.specs.Relations.{Answers, AnswersSign};
@@ -30,8 +32,15 @@ impl Model for MacKeys {
 impl MacKeys {
     /// Keys whose calls with these numbers fail. All calls of `verify` and `sign` are numbered
     /// together, from 1.
+    ///
+    /// # Errors
+    /// [`Memory`] where there is none for the list of numbers.
     pub fn new(alloc: Global, faults: &[u64]) -> Result<MacKeys, Memory>
-        ensures { IfOk result (λ k. k ≡ record { calls = 0; faults = 0; listed = faults.now }) }
+        ensures state { IfOk result (λ k. k ≡ record { calls = 0; faults = 0; listed = faults.now }) }
+
+        // As `Keys` it tells the relations of HMAC-SHA-256, and no fault.
+        ensures tells { IfOk result (λ k. ⟦<MacKeys as Keys>⟧.told k ≡ Some mac_relations) }
+        ensures counts { IfOk result (λ k. ⟦<MacKeys as Keys>⟧.fault_count k ≡ 0) }
     {
         Ok(MacKeys {
             calls: 0,

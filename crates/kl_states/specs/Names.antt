@@ -3,7 +3,7 @@ use Rattle.std.specs.Prelude.{ℕ, ◌≤◌, Bool, ◌||◌, ◌==◌, List, le
 use Rattle.std.specs.List.{AllPass}
 use Rattle.std.specs.Char.{is_ascii_alphanumeric}
 
--- an ASCII letter or digit, `-`, `_` or `.`
+-- an ASCII letter or digit, or `-` (45), `_` (95) or `.` (46)
 abbrev pub is_agent_id_byte : ℕ → Bool
 is_agent_id_byte b = is_ascii_alphanumeric b || (b == 45 || b == 95 || b == 46)
 

@@ -17,18 +17,21 @@ impl Model for Blob {
 }
 
 impl Blob {
+    /// The blob that holds these bytes.
     pub fn new(bytes: Vec<u8>) -> Blob
         ensures { result ≡ bytes.items }
     {
         Blob { bytes }
     }
 
+    /// What it holds.
     pub fn as_slice(&self) -> &[u8]
         ensures { result.now ≡ self.now }
     {
         self.bytes.as_slice()
     }
 
+    /// The bytes that it was made of.
     pub fn into_vec(self) -> Vec<u8>
         ensures { result.items ≡ self }
     {

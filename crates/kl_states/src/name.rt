@@ -28,6 +28,7 @@ impl Model for Name {
 }
 
 impl Name {
+    /// The name with these bytes.
     pub fn new(text: &[u8]) -> Name
         requires fits { length text.now ≤ 64 }
         requires ascii { IsAscii text.now }
@@ -41,12 +42,14 @@ impl Name {
         }
     }
 
+    /// Its bytes.
     pub fn as_slice(&self) -> &[u8]
         ensures { result.now ≡ self.now }
     {
         &self.bytes[..self.len]
     }
 
+    /// The same as text.
     pub fn as_str(&self) -> &str
         ensures { result.now ≡ self.now }
     {

@@ -73,33 +73,29 @@ fn verdicts_print_their_causes(rt: HostRuntime) -> Result<(), Fail> {
         (Verdict::Pass(0), "pass 0"),
         (Verdict::Pass(most), "pass 18446744073709551615"),
         (Verdict::Failed(FailedCause::Pcr(23)), "failed pcr 23"),
-        (
-            Verdict::Failed(FailedCause::Line(7, LineCause::TooLong)),
-            "failed line 7 toolong",
-        ),
-        (
-            Verdict::Failed(FailedCause::Line(0, LineCause::HashText)),
-            "failed line 0 hash",
-        ),
         (Verdict::Failed(FailedCause::ListFull), "failed listfull"),
         (Verdict::Failed(FailedCause::Unmatched), "failed unmatched"),
-        (
-            Verdict::Failed(FailedCause::Entry(131071, EntryCause::Inconsistent)),
-            "failed entry 131071 inconsistent",
-        ),
         (Verdict::Invalid(InvalidCause::Form(3)), "invalid form 3"),
+        (Verdict::Invalid(InvalidCause::Bank), "invalid bank"),
         (
-            Verdict::Invalid(InvalidCause::Attest(AttestCause::Short(96))),
-            "invalid attest short 96",
+            Verdict::Invalid(InvalidCause::Signature),
+            "invalid signature",
         ),
+        (Verdict::Invalid(InvalidCause::Nonce), "invalid nonce"),
         (
-            Verdict::Invalid(InvalidCause::Attest(AttestCause::AttestType)),
-            "invalid attest type",
+            Verdict::Invalid(InvalidCause::Selection),
+            "invalid selection",
         ),
         (
             Verdict::Invalid(InvalidCause::PcrLength),
             "invalid pcrlength",
         ),
+        (
+            Verdict::Invalid(InvalidCause::PcrDigest),
+            "invalid pcrdigest",
+        ),
+        (Verdict::Invalid(InvalidCause::Binding), "invalid binding"),
+        (Verdict::Invalid(InvalidCause::Start), "invalid start"),
     ];
     for (verdict, text) in &printed {
         let shown = verdict.to_string(rt.alloc())?;
@@ -108,10 +104,50 @@ fn verdicts_print_their_causes(rt: HostRuntime) -> Result<(), Fail> {
     Ok(())
 }
 
+#[test]
+fn verdicts_print_what_is_wrong_with_a_line_an_entry_or_an_attestation(
+    rt: HostRuntime,
+) -> Result<(), Fail> {
+    let lines = [
+        (LineCause::TooLong, "failed line 7 toolong"),
+        (LineCause::Pcr, "failed line 7 pcr"),
+        (LineCause::HashText, "failed line 7 hash"),
+        (LineCause::Template, "failed line 7 template"),
+        (LineCause::Digest, "failed line 7 digest"),
+        (LineCause::Path, "failed line 7 path"),
+    ];
+    for (cause, text) in &lines {
+        let shown = Verdict::Failed(FailedCause::Line(7, *cause)).to_string(rt.alloc())?;
+        assert_eq!(rt; shown.as_str(), *text);
+    }
+    let entries = [
+        (EntryCause::Violation, "failed entry 131071 violation"),
+        (EntryCause::Inconsistent, "failed entry 131071 inconsistent"),
+        (EntryCause::Unknown, "failed entry 131071 unknown"),
+        (EntryCause::Digest, "failed entry 131071 digest"),
+    ];
+    for (cause, text) in &entries {
+        let shown = Verdict::Failed(FailedCause::Entry(131071, *cause)).to_string(rt.alloc())?;
+        assert_eq!(rt; shown.as_str(), *text);
+    }
+    let attestations = [
+        (AttestCause::Short(96), "invalid attest short 96"),
+        (AttestCause::Magic, "invalid attest magic"),
+        (AttestCause::AttestType, "invalid attest type"),
+        (AttestCause::Safe, "invalid attest safe"),
+        (AttestCause::Tail(145), "invalid attest tail 145"),
+    ];
+    for (cause, text) in &attestations {
+        let shown = Verdict::Invalid(InvalidCause::Attest(*cause)).to_string(rt.alloc())?;
+        assert_eq!(rt; shown.as_str(), *text);
+    }
+    Ok(())
+}
+
 fn shared<T: Sync + Send>(_value: &T) {}
 
 #[test]
-fn threads_may_share_them(rt: HostRuntime) -> Result<(), Fail> {
+fn threads_may_share_names_texts_and_verdicts(rt: HostRuntime) -> Result<(), Fail> {
     shared(&AgentId::from_bytes(b"a").ok_or("the bytes name an agent")?);
     shared(&Nonce::from_bytes(b"n").ok_or("the bytes are a nonce")?);
     shared(&Text::new(String::new(rt.alloc())));

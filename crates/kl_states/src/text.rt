@@ -19,12 +19,14 @@ impl Model for Text {
 }
 
 impl Text {
+    /// The text that holds this string.
     pub fn new(text: String) -> Text
         ensures { result ≡ string_bytes text }
     {
         Text { text }
     }
 
+    /// What it holds.
     pub fn as_str(&self) -> &str
         ensures { result.now ≡ self.now }
     {
@@ -38,6 +40,7 @@ impl Text {
         self.text.len()
     }
 
+    /// The string that it was made of.
     pub fn into_string(self) -> String
         ensures { string_bytes result ≡ self }
     {

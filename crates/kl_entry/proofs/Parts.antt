@@ -31,9 +31,6 @@ parted text at lt = sym (take-append-drop at text) ∙ ap (λ (x : List ℕ). ta
 pub cut_after : (text hay : List ℕ) (at c : ℕ) → IsUtf8 hay → hay ≡ text → at < length hay → get_or hay at 0 ≡ c → c < 128 → IsCharBoundary text (at + 1)
 cut_after text hay at c utf8 same lt is ascii = subst (λ (t : List ℕ). IsCharBoundary t (at + 1)) same (IsCharBoundary-after_ascii hay at utf8 lt (omega arith))
 
-pub cut_before : (text hay : List ℕ) (at c : ℕ) → hay ≡ text → at < length hay → get_or hay at 0 ≡ c → c < 128 → IsCharBoundary text at
-cut_before text hay at c same lt is ascii = subst (λ (t : List ℕ). IsCharBoundary t at) same (IsCharBoundary-before_ascii hay at lt (omega arith))
-
 -- ---- the hash's digits and a space
 
 pub hash_found : (text hay hash rest : List ℕ) → hay ≡ text → 40 < length hay → get_or hay 40 0 ≡ 32 → take 40 hay ≡ encode_lower hash → rest ≡ drop 41 text → text ≡ encode_lower hash ++ 32 ∷ rest
@@ -46,15 +43,6 @@ pub hash_missed : (text hay digits rest : List ℕ) → hay ≡ text → 40 < le
 hash_missed text hay digits rest same lt none is spelled =
     let front : take 40 hay ≡ digits = ap (λ (t : List ℕ). take 40 t) (same ∙ spelled) ∙ ap (λ (k : ℕ). take k (digits ++ 32 ∷ rest)) (sym is.len) ∙ take-append_seam digits (32 ∷ rest) in
     none (subst (λ (t : List ℕ). AllPass is_digit t) (sym front) is.digits)
-
--- there is no room for them, or no space stands behind them
-pub hash_short : (text hay digits rest : List ℕ) → hay ≡ text → length hay ≤ 40 → IsHashText digits → text ≡ digits ++ 32 ∷ rest → ⊥
-hash_short text hay digits rest same le is spelled = omega (arith, ap length (same ∙ spelled), length-append digits (32 ∷ rest), is.len)
-
-pub hash_unended : (text hay digits rest : List ℕ) → hay ≡ text → get_or hay 40 0 ≢ 32 → IsHashText digits → text ≡ digits ++ 32 ∷ rest → ⊥
-hash_unended text hay digits rest same other is spelled =
-    let ends = ends_at text digits rest is.digits spelled in
-    other (ap (λ (t : List ℕ). get_or t 40 0) same ∙ ap (λ (k : ℕ). get_or text k 0) (sym is.len) ∙ ends.space)
 
 -- ---- the name, the digest's digits and a space
 
@@ -85,17 +73,6 @@ name_cut text name after n is pass spelled =
       colon = ap (λ (m : ℕ). get_or text m 0) e ∙ ap (λ (t : List ℕ). get_or t (length name) 0) spelled ∙ get_or_seam name after 58;
       rest = ap (λ (m : ℕ). drop m text) k ∙ ap (λ (t : List ℕ). drop (length name + 1) t) spelled ∙ drop-append-add name (58 ∷ after) 1;
     }
-
-pub name_found : (text hay name digits rest : List ℕ) (n space : ℕ) → hay ≡ text → n < length hay → get_or hay n 0 ≡ 58 → space < length (drop (n + 1) hay) → get_or (drop (n + 1) hay) space 0 ≡ 32 → take space (drop (n + 1) hay) ≡ digits
-    → name ≡ take n text → rest ≡ drop (n + space + 2) text → text ≡ name ++ 58 ∷ (digits ++ 32 ∷ rest)
-name_found text hay name digits rest n space same lt colon in_after is_space is_digits is_name is_rest =
-    let after : List ℕ = drop (n + 1) hay in
-    let first : hay ≡ take n hay ++ 58 ∷ after = parted hay n lt ∙ ap (λ (b : ℕ). take n hay ++ b ∷ after) colon in
-    let second : after ≡ take space after ++ 32 ∷ drop (space + 1) after = parted after space in_after ∙ ap (λ (b : ℕ). take space after ++ b ∷ drop (space + 1) after) is_space in
-    let k : n + 1 + (space + 1) ≡ n + space + 2 = omega arith in
-    let last : drop (space + 1) after ≡ rest = drop-drop (space + 1) (n + 1) hay ∙ ap (λ (m : ℕ). drop m hay) k ∙ ap (λ (t : List ℕ). drop (n + space + 2) t) same ∙ sym is_rest in
-    let front : take n hay ≡ name = ap (λ (t : List ℕ). take n t) same ∙ sym is_name in
-    sym same ∙ first ∙ ap (λ (t : List ℕ). take n hay ++ 58 ∷ t) second ∙ rw (front, is_digits, last) refl
 
 pub name_is : (text : List ℕ) (n : ℕ) → n ≡ prefix_len is_name_byte text → 1 ≤ n → n ≤ 32 → n < length text → IsName (take n text)
 name_is text n is some short lt =

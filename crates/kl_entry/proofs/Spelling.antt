@@ -101,31 +101,6 @@ one_fault line f g hf hg =
 
 -- ---- the faults, as a reader meets them
 
-pub fault_too_long : (line : List ℕ) → 8192 < length line → IsLineFault line TooLong
-fault_too_long line long = record { earlier = λ f lt. absurd (omega arith); fails = λ short. omega arith }
-
-pub fault_pcr : (line : List ℕ) → length line ≤ 8192 → ((rest : List ℕ) → ¬ (AfterPcr line rest)) → IsLineFault line Pcr
-fault_pcr line short none = record { earlier = earlier; fails = λ (rest, p). none rest p }
-  where
-    earlier : (f : LineFault) → order f < 1 → Passes f line
-    earlier TooLong lt = short
-    earlier Pcr lt = absurd (omega arith)
-    earlier HashText lt = absurd (omega arith)
-    earlier Template lt = absurd (omega arith)
-    earlier Digest lt = absurd (omega arith)
-    earlier Path lt = absurd (omega arith)
-
-pub fault_hash : (line rest : List ℕ) → length line ≤ 8192 → AfterPcr line rest → ((digits after : List ℕ) → IsHashText digits → rest ≡ digits ++ 32 ∷ after → ⊥) → IsLineFault line HashText
-fault_hash line rest short pcr none = record { earlier = earlier; fails = λ (after, (digits, is, p)). none digits after is (pcr_same line rest (digits ++ 32 ∷ after) pcr p) }
-  where
-    earlier : (f : LineFault) → order f < 2 → Passes f line
-    earlier TooLong lt = short
-    earlier Pcr lt = (rest, pcr)
-    earlier HashText lt = absurd (omega arith)
-    earlier Template lt = absurd (omega arith)
-    earlier Digest lt = absurd (omega arith)
-    earlier Path lt = absurd (omega arith)
-
 pub fault_template : (line rest : List ℕ) → length line ≤ 8192 → AfterHash line rest → ((after : List ℕ) → rest ≡ codes "ima-ng " ++ after → ⊥) → IsLineFault line Template
 fault_template line rest short hash none = record { earlier = earlier; fails = λ (after, p). none after (hash_same line rest (codes "ima-ng " ++ after) hash p) }
   where

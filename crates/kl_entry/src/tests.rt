@@ -201,3 +201,24 @@ fn each_fault_at_its_edges(rt: HostRuntime) -> Result<(), Fail> {
     }
     Ok(())
 }
+
+#[test]
+fn each_fault_and_want_of_memory_are_shown_in_words(rt: HostRuntime) -> Result<(), Fail> {
+    let texts = [
+        "the line has more than 8192 bytes",
+        "the line is not of PCR 10",
+        "the template hash is not 40 hexadecimal digits",
+        "the template is not ima-ng",
+        "the file digest has not the form name:digits",
+        "the path is empty or has a newline",
+    ];
+    for (i, text) in texts.iter().enumerate() {
+        let fault = FAULTS[i];
+        let shown = format!(in rt.alloc(); "{fault}")?;
+        assert_eq!(rt; shown.as_str(), *text);
+    }
+    let memory = Memory;
+    let shown = format!(in rt.alloc(); "{memory}")?;
+    assert_eq!(rt; shown.as_str(), "out of memory");
+    Ok(())
+}

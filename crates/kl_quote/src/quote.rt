@@ -83,7 +83,8 @@ fn decode_part(alloc: Global, part: &str, number: u8) -> Result<Blob, QuoteFault
 ///
 /// # Errors
 ///
-/// [`QuoteFault::Form`] where the text is no such quote, and [`QuoteFault::Memory`].
+/// [`QuoteFault::Form`] where the text is no such quote, and [`QuoteFault::Memory`] where memory ran
+/// out, which a text without the form never meets.
 pub fn read_quote(alloc: Global, text: &str) -> Result<Quote, QuoteFault>
     ensures found { IfOk result (λ q. IsQuoteText text.now q.attest q.signature q.pcrs) }
     ensures only { (attest signature values : List ℕ) → IsQuoteText text.now attest signature values → ReadsAs result attest signature values }

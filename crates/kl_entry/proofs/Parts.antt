@@ -1,15 +1,14 @@
 -- Where a part of a line ends, and that a line has its parts in one way.
-use Rattle.std.proofs.Common.{◌≡◌, ◌≢◌, ℕ, ◌+◌, ◌<◌, ◌≤◌, Bool, true, false, List, [], ◌∷◌, ◌++◌, length, get_or, take, drop, refl, sym, ap, ◌∙◌, subst, arith, add-one, drop-cons, length-append}
+use Rattle.std.proofs.Common.{◌≡◌, ℕ, ◌+◌, ◌<◌, ◌≤◌, Bool, true, false, List, [], ◌∷◌, ◌++◌, length, get_or, take, drop, refl, sym, ap, ◌∙◌, subst, arith, add-one, drop-cons, length-append}
 use Rattle.std.proofs.lemmas.Bool.{false≢true}
-use Rattle.std.proofs.lemmas.List.{take-append-drop, length-take, get_or-take, get_or-drop, drop-drop, length-drop}
+use Rattle.std.proofs.lemmas.List.{take-append-drop, length-take, get_or-take, get_or-drop, length-drop}
 use Rattle.std.proofs.lemmas.List.Elements.{All-head, All-tail}
 use Rattle.std.proofs.lemmas.List.Sums.{prefix_len_passes}
 use Rattle.std.proofs.Math.Seq.{take-append_seam, drop-append-add}
-use Rattle.std.proofs.lemmas.Str.{IsCharBoundary-after_ascii, IsCharBoundary-before_ascii}
+use Rattle.std.proofs.lemmas.Str.{IsCharBoundary-after_ascii}
 use Rattle.std.specs.Str.{IsUtf8, IsCharBoundary}
 use Rattle.std.specs.List.{AllPass, prefix_len}
 use Rattle.hex.specs.Hex.{encode_lower}
-use Rattle.kl_entry.proofs.Hexadecimal.{ends_at}
 use Rattle.kl_entry.specs.Lines.{is_digit, is_name_byte, IsHashText, IsDigestText, IsName}
 
 -- a text that passes a test, up to a byte that does not, stands at the front in one way

@@ -5,7 +5,7 @@ use Rattle.hex.specs.Hex.{encode_lower}
 use Rattle.kl_entry.specs.declared.fault.LineFault.{LineFault}
 use Rattle.kl_entry.specs.declared.fault.LineFault.TheVariants.{TooLong, Pcr, HashText, Template, Digest, Path}
 use Rattle.kl_entry.specs.Entries.{EntryFields}
-use Rattle.kl_entry.specs.Lines.{is_digit, is_name_byte, line_of, AreBytes, IsHashText, IsName, IsDigestText, IsPath, Spells, AfterPcr, AfterHash, AfterTemplate, AfterDigest, Passes, order, IsLineFault}
+use Rattle.kl_entry.specs.Lines.{is_digit, is_name_byte, line_of, AreBytes, IsName, IsDigestText, IsPath, Spells, AfterPcr, AfterHash, AfterTemplate, AfterDigest, Passes, order, IsLineFault}
 use Rattle.kl_entry.proofs.Hexadecimal.{hash_text, digest_text, same_bytes}
 use Rattle.kl_entry.proofs.Parts.{cut_same}
 

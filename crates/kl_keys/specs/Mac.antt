@@ -13,18 +13,18 @@ mac_relations = record {
 }
 
 -- what keys in memory have done: how many calls, how many faults, and which calls fail
-pub record Session : Type 0 where
+pub record MacState : Type 0 where
   pub calls : ℕ
   pub faults : ℕ
   pub listed : List ℕ
 
 -- the next call, numbered from 1, is a listed one
-abbrev pub FailsNext : Session → Type 0
+abbrev pub FailsNext : MacState → Type 0
 FailsNext s = Contains s.listed (one_more s.calls)
 
 -- one more call, that did not fail or that did
-abbrev pub after_call : Session → Session
+abbrev pub after_call : MacState → MacState
 after_call s = record s { calls = one_more s.calls }
 
-abbrev pub after_fault : Session → Session
+abbrev pub after_fault : MacState → MacState
 after_fault s = record s { calls = one_more s.calls; faults = one_more s.faults }

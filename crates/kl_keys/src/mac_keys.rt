@@ -22,9 +22,9 @@ pub struct MacKeys {
 }
 
 impl Model for MacKeys {
-    ghost use Rattle.kl_keys.specs.Mac.{Session};
+    ghost use Rattle.kl_keys.specs.Mac.{MacState};
 
-    ghost Value = { Session };
+    ghost Value = { MacState };
 
     ghost view = { λ k. record { calls = k.calls; faults = k.faults; listed = k.listed.items } };
 }

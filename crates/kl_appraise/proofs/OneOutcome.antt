@@ -113,7 +113,7 @@ one_boot c x y (_, _, _, _, is) (_, _, _, _, also) = is ∙ sym also
 one_pcr : (c : Case) → IsOne (ByPcr c)
 one_pcr c x y (v, n, has, wrong, is) (w, m, also, first, same) =
     let here : IsFirstWrong c.terms.bank c.terms.mask v c.terms.statics (Some m) =
-        subst (λ (values : List ℕ). IsFirstWrong c.terms.bank c.terms.mask values c.terms.statics (Some m)) (values_unique c.evidence.quote w v also has) first in
+    subst (λ (values : List ℕ). IsFirstWrong c.terms.bank c.terms.mask values c.terms.statics (Some m)) (values_unique c.evidence.quote w v also has) first in
     is ∙ ap (λ (pcr : ℕ). Judged (Failed (Pcr pcr))) (least_wrong n m wrong here) ∙ sym same
   where
     least_wrong : (n m : ℕ) → IsFirstWrong c.terms.bank c.terms.mask v c.terms.statics (Some n) → IsFirstWrong c.terms.bank c.terms.mask v c.terms.statics (Some m) → n ≡ m
@@ -135,9 +135,8 @@ unfolding IsGood
 one_bad_line text p q f g first other =
     let both = sym first.cut ∙ other.cut in
     let place = one_place IsGood first.before first.after other.before other.after first.line other.line both first.good other.good
-        (spells_none first.line f first.bad) (spells_none other.line g other.bad) in
-    let line = one_item first.before first.after other.before other.after first.line other.line both place in
-    (
+    (spells_none first.line f first.bad) (spells_none other.line g other.bad) in
+    let line = one_item first.before first.after other.before other.after first.line other.line both place in (
       sym first.counted ∙ place ∙ other.counted,
       one_fault other.line f g (subst (λ (l : List ℕ). IsLineFault l f) line first.bad) other.bad,
     )
@@ -221,8 +220,8 @@ one_by_entry c some x y (v, m, p, why, whole, cut, bad, is) (w, n, q, because, a
     let list : v ≡ w = one_whole c v w whole also in
     let places : m ≡ n = cut_in c v w m n some list cut at in
     let moved : IsFirstBad c.terms.policy (take n w) (Some (p, why)) =
-        subst (λ (k : ℕ). IsFirstBad c.terms.policy (take k w) (Some (p, why))) places
-        (subst (λ (es : List EntryFields). IsFirstBad c.terms.policy (take m es) (Some (p, why))) list bad) in
+    subst (λ (k : ℕ). IsFirstBad c.terms.policy (take k w) (Some (p, why))) places
+    (subst (λ (es : List EntryFields). IsFirstBad c.terms.policy (take m es) (Some (p, why))) list bad) in
     let one = one_bad c.terms.policy (take n w) p q why because moved worse in
     is ∙ ap (λ (k : ℕ). Judged (Failed (Entry k (entry_cause why)))) one.0
     ∙ ap (λ (z : Why). Judged (Failed (Entry q (entry_cause z)))) one.1 ∙ sym same

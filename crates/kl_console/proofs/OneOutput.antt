@@ -190,7 +190,7 @@ goes_on keys left stage line next text rest is does (inr (inr (inl (some, whole,
 goes_on keys left stage line next text rest is does (inr (inr (inr (long, more, cut, much)))) =
     let below : length line < length long = omega (arith, is.short, much.long) in
     let there : get_or long (length line) 10 ≡ 10 =
-        sym (get_or-append long more 10 (length line) below) ∙ ap (λ (bytes : List ℕ). get_or bytes (length line) 10) (sym cut) ∙ newline_behind line rest in
+    sym (get_or-append long more 10 (length line) below) ∙ ap (λ (bytes : List ℕ). get_or bytes (length line) 10) (sym cut) ∙ newline_behind line rest in
     much.whole (length line) 10 below there
 
 -- what a session read, printed and has left
@@ -228,7 +228,7 @@ one_session keys steady left stage m n (l ∷ ls) (o ∷ ms) (t ∷ ts) (u ∷ u
     let cut = same_word 10 l o (ended ls ++ p) (ended ms ++ q) (no_newline l whole.whole) (no_newline o other.whole) (sym (first_line l ls p) ∙ e ∙ first_line o ms q) in
     let one = one_turn keys steady stage l next then t u does (subst (λ (line : List ℕ). Does keys stage line then u) (sym cut.0) acts) in
     let rest = one_session keys steady left next m n ls ms ts us p q (other_lines l ls each) (other_lines o ms also) follows
-        (subst (λ (s : Stage). Follows keys s ms us n) (sym one.0) goes) stop ends cut.1 in
+    (subst (λ (s : Stage). Follows keys s ms us n) (sym one.0) goes) stop ends cut.1 in
     record {
       lines_same = ap (λ (line : List ℕ). line ∷ ls) cut.0 ∙ ap (λ (lines : List (List ℕ)). o ∷ lines) rest.lines_same;
       texts_same = ap (λ (text : List ℕ). text ∷ ts) one.1 ∙ ap (λ (texts : List (List ℕ)). u ∷ texts) rest.texts_same;

@@ -8,7 +8,7 @@ use Rattle.std.proofs.lemmas.Bool.{cases_lt}
 not_among : {X : Type 0} (Good : X → Type 0) (a b c d : List X) (x y : X) → a ++ x ∷ b ≡ c ++ y ∷ d → All Good c → ¬ (Good x) → ¬ (length a < length c)
 not_among Good a b c d x y same good bad below =
     let there : get_or c (length a) x ≡ x =
-        sym (get_or-append c (y ∷ d) x (length a) below) ∙ ap (λ xs. get_or xs (length a) x) (sym same) ∙ get_or-append_seam a x b x in
+    sym (get_or-append c (y ∷ d) x (length a) below) ∙ ap (λ xs. get_or xs (length a) x) (sym same) ∙ get_or-append_seam a x b x in
     bad (subst Good there (good (length a) x below))
 
 pub one_place : {X : Type 0} (Good : X → Type 0) (a b c d : List X) (x y : X) → a ++ x ∷ b ≡ c ++ y ∷ d → All Good a → All Good c → ¬ (Good x) → ¬ (Good y)

@@ -167,7 +167,10 @@ fn faults_and_reasons_print_what_is_wrong(rt: HostRuntime) -> Result<(), Fail> {
             "the template hash is not that of the entry's data",
         ),
         (Why::Unknown, "no digest is known for the path"),
-        (Why::Digest, "the digest is none of those known for the path"),
+        (
+            Why::Digest,
+            "the digest is none of those known for the path",
+        ),
     ] {
         assert_eq!(rt; why.to_string(alloc)?.as_str(), text);
     }

@@ -85,7 +85,7 @@ form_parts text (rest, begins, two) =
     let (b, c, second, no_second) = first_colon more (omega (arith, all, two, left, no_first)) in
     let last = colons_cut more b c second in
     let joined : text ≡ text_of_parts a b c =
-        begins ∙ ap (λ (xs : List ℕ). 114 ∷ xs) (first ∙ ap (λ (xs : List ℕ). a ++ 58 ∷ xs) second) ∙ sym (grouped a b c) in
+    begins ∙ ap (λ (xs : List ℕ). 114 ∷ xs) (first ∙ ap (λ (xs : List ℕ). a ++ 58 ∷ xs) second) ∙ sym (grouped a b c) in
     (a, b, c, record { joined = joined; first_whole = no_first; second_whole = no_second; third_whole = omega (arith, all, two, left, no_first, last, no_second) })
 
 -- a text that has none of the faults is, not to be denied, a quote's
@@ -93,14 +93,35 @@ pub faultless_quote : (text : List ℕ) → ((part : ℕ) → ¬ (IsFormFault te
 faultless_quote text faultless none =
     faultless 0 (λ form.
     let (a, b, c, parts) = form_parts text form in
-    faultless 1 (a, b, c, parts, λ (attest, is_first).
-    faultless 2 (a, b, c, parts, (attest, is_first), λ (signature, is_second).
-    faultless 3 (a, b, c, parts, (attest, is_first), (signature, is_second), λ (values, is_third).
-    none attest signature values (record {
-      attest_bytes = is_first.0;
-      signature_bytes = is_second.0;
-      value_bytes = is_third.0;
-      spelled = parts.joined ∙ ap (λ (x : List ℕ). text_of_parts x b c) is_first.1
-      ∙ ap (λ (x : List ℕ). text_of_parts (base64 attest) x c) is_second.1
-      ∙ ap (λ (x : List ℕ). text_of_parts (base64 attest) (base64 signature) x) is_third.1;
-    })))))
+    faultless 1 (
+      a,
+      b,
+      c,
+      parts,
+      λ (attest, is_first).
+          faultless 2 (
+            a,
+            b,
+            c,
+            parts,
+            (attest, is_first),
+            λ (signature, is_second).
+                faultless 3 (
+                  a,
+                  b,
+                  c,
+                  parts,
+                  (attest, is_first),
+                  (signature, is_second),
+                  λ (values, is_third).
+                      none attest signature values (record {
+                        attest_bytes = is_first.0;
+                        signature_bytes = is_second.0;
+                        value_bytes = is_third.0;
+                        spelled = parts.joined ∙ ap (λ (x : List ℕ). text_of_parts x b c) is_first.1
+                            ∙ ap (λ (x : List ℕ). text_of_parts (base64 attest) x c) is_second.1
+                            ∙ ap (λ (x : List ℕ). text_of_parts (base64 attest) (base64 signature) x) is_third.1;
+                      }),
+                ),
+          ),
+    ))

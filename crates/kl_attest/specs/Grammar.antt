@@ -1,5 +1,5 @@
--- A quote's TPMS_ATTEST, as what its fields are and the one text that they have (TPM 2.0 Library, Part 2:
--- TPMS_ATTEST, TPMS_CLOCK_INFO, TPMS_QUOTE_INFO, TPML_PCR_SELECTION, TPMS_PCR_SELECTION).
+-- A quote's TPMS_ATTEST, as what its fields are and the one text that they have (TPM 2.0 Library, Part 2: TPMS_ATTEST and
+-- TPMS_QUOTE_INFO in section 10.12, TPMS_CLOCK_INFO in 10.11, TPML_PCR_SELECTION in 10.9, TPMS_PCR_SELECTION in 10.6).
 -- Every number stands with its highest byte first.
 use Rattle.std.specs.Prelude.{◌≡◌, ℕ, ◌<◌, ◌^◌, Bool, List, [], ◌∷◌, ◌++◌, length, slice_index, if◌then◌else◌}
 use Rattle.std.specs.List.{flat_map, AllByRecursion}

@@ -32,7 +32,7 @@ pub fn read_attest(bytes: &[u8]) -> Result<Attest<'_>, AttestFault>
 fn read_whole(bytes: &[u8]) -> Result<Attest<'_>, AttestFault>
     ensures { Gives view result (all_of bytes.now) }
 {
-    let (attest, after) = read_quote(Cursor::new(bytes))?;
+    let (attest, after) = read_fields(Cursor::new(bytes))?;
     if !after.rest.is_empty() {
         return Err(AttestFault::Tail(after.at));
     }
@@ -40,7 +40,7 @@ fn read_whole(bytes: &[u8]) -> Result<Attest<'_>, AttestFault>
 }
 
 #[tactic(auto, unfolding(crate::specs::Faults::quoted_at))]
-fn read_quote<'a>(cursor: Cursor<'a>) -> Result<(Attest<'a>, Cursor<'a>), AttestFault>
+fn read_fields<'a>(cursor: Cursor<'a>) -> Result<(Attest<'a>, Cursor<'a>), AttestFault>
     ensures { Gives (λ x. (view x.0, place_of x.1)) result (quoted_at (place_of cursor.entry)) }
 {
     let after = cursor.read_header()?;

@@ -4,3 +4,4 @@ pub mod Rooms
 pub mod Padding
 pub mod Borrowed
 pub mod Lines
+pub mod Texts

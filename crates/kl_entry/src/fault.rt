@@ -1,6 +1,7 @@
 //! Why a line spells no entry, and want of memory.
 
-ghost use Rattle.std.specs.Prelude.{◌≡◌};
+ghost use Rattle.std.specs.Prelude.{Some, codes};
+ghost use Rattle.kl_entry.specs.Texts.{fault_text};
 
 use std::alloc::{AllocError, AllocFailed};
 use std::error::Error;
@@ -25,15 +26,17 @@ pub enum LineFault {
 }
 
 impl fmt::Display for LineFault {
+    ghost output = { λ fault. Some (fault_text fault) };
+
     fn fmt<W: fmt::Write>(&self, f: &mut fmt::Formatter<W>) -> fmt::Result {
-        match self {
-            LineFault::TooLong => write!(f, "the line has more than 8192 bytes"),
-            LineFault::Pcr => write!(f, "the line is not of PCR 10"),
-            LineFault::HashText => write!(f, "the template hash is not 40 hexadecimal digits"),
-            LineFault::Template => write!(f, "the template is not ima-ng"),
-            LineFault::Digest => write!(f, "the file digest has not the form name:digits"),
-            LineFault::Path => write!(f, "the path is empty or has a newline"),
-        }
+        f.write_str(match self {
+            LineFault::TooLong => "the line has more than 8192 bytes",
+            LineFault::Pcr => "the line is not of PCR 10",
+            LineFault::HashText => "the template hash is not 40 hexadecimal digits",
+            LineFault::Template => "the template is not ima-ng",
+            LineFault::Digest => "the file digest has not the form name:digits",
+            LineFault::Path => "the path is empty or has a newline",
+        })
     }
 }
 
@@ -60,8 +63,10 @@ impl<T: Drop> From<AllocFailed<T>> for Memory {
 }
 
 impl fmt::Display for Memory {
+    ghost output = { λ _. Some (codes "out of memory") };
+
     fn fmt<W: fmt::Write>(&self, f: &mut fmt::Formatter<W>) -> fmt::Result {
-        write!(f, "out of memory")
+        f.write_str("out of memory")
     }
 }
 

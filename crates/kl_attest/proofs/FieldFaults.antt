@@ -1,6 +1,6 @@
 -- The readers of one field, and what each answers where the field does not fit.
-use Rattle.std.proofs.Common.{◌≡◌, ◌≢◌, ℕ, zero, suc, ◌+◌, ◌^◌, ◌<◌, ◌≤◌, ◌%◌, Bool, true, false, cond, eqb, ltb, ◌⊎◌, List, [], ◌∷◌, ◌++◌, length, get_or, take, drop, replicate, Result, Ok, Err, refl, sym, ap, subst, ◌∙◌, arith, inl, inr}
-use Rattle.std.specs.Int.{Width, w8, w16, w32, w64, byte_len, from_be_bytes, to_be_bytes}
+use Rattle.std.proofs.Common.{◌≡◌, ◌≢◌, ℕ, ◌+◌, ◌^◌, ◌<◌, ◌≤◌, Bool, true, false, cond, eqb, ltb, ◌⊎◌, List, [], ◌∷◌, ◌++◌, length, get_or, take, drop, replicate, Result, Ok, Err, refl, sym, ap, subst, ◌∙◌, arith, inl, inr}
+use Rattle.std.specs.Int.{Width, w8, w16, byte_len, from_be_bytes, to_be_bytes}
 use Rattle.std.proofs.lemmas.Bool.{cases_lt, ltb-true, ltb-false, le-ltb, lt-ltb, eqb-true, eq-eqb, eqb-false, ne_eqb}
 use Rattle.std.proofs.lemmas.List.{take_at, drop_at, take-append-drop, length-append, length-take, length-replicate, get_or-replicate, get_or-take, get_or-drop, get_or_past}
 use Rattle.kl_attest.specs.declared.fault.AttestFault.{AttestFault}
@@ -10,7 +10,7 @@ use Rattle.kl_attest.specs.FirstFault.{Field, field_text, joined, sized_fields, 
 use Rattle.kl_attest.specs.FirstFault.Field.{Free, Fixed, YesNo}
 use Rattle.kl_attest.specs.Faults.{◌>>=◌, Place, moved, bytes_at, number_at, constant_at, sized_at, flag_at}
 use Rattle.kl_attest.proofs.Fields.{IsBytes-take, bind_ok, guard_ok, test_ok, chosen, ok_is, IsWide, wide8, wide16}
-use Rattle.kl_attest.proofs.Misfits.{joined_one, cons_is, no_field, Took, Got, Breaks, IsReader, Parts, bind_err, then_reads, said_reads}
+use Rattle.kl_attest.proofs.Misfits.{joined_one, cons_is, no_field, Took, Breaks, IsReader, Parts, bind_err, then_reads, said_reads}
 
 alone_is : (x : Field) (before : List Field) (y : Field) (after : List Field) → (x ∷ []) ≡ before ++ y ∷ after → (before ≡ []) × (y ≡ x)
 alone_is x [] y after e = (refl, sym (cons_is x y [] after e).0)

@@ -1,5 +1,5 @@
 -- What reading from left to right answers is the first field that does not fit, and no other.
-use Rattle.std.proofs.Common.{◌≡◌, ℕ, ◌+◌, ◌≤◌, cond, eqb, false, ◌⊎◌, List, [], ◌∷◌, ◌++◌, length, Result, Ok, Err, refl, sym, ap, subst, ◌∙◌, append_assoc, arith, inl, inr}
+use Rattle.std.proofs.Common.{◌≡◌, ℕ, ◌+◌, cond, eqb, false, List, [], ◌∷◌, ◌++◌, length, Result, Ok, Err, refl, sym, ap, subst, ◌∙◌, arith, inl, inr}
 use Rattle.std.specs.Prelude.{IfErr}
 use Rattle.std.specs.List.{flat_map}
 use Rattle.std.specs.Int.{w8, w16, w32, w64, to_be_bytes}
@@ -11,7 +11,7 @@ use Rattle.kl_attest.specs.declared.attest.Attest.{Attest}
 use Rattle.kl_attest.specs.Grammar.{Selection, Quoted, magic, attest_quote, sized, selection_text, selections_text, clock_text, text_of, IsBytes, Spells}
 use Rattle.kl_attest.specs.FirstFault.{Field, field_text, joined, sized_fields, clock_fields, selection_fields, fields_of, Misfits, HasMisfit, HasTail, IsFirstFault}
 use Rattle.kl_attest.specs.FirstFault.Field.{Free, Fixed, YesNo}
-use Rattle.kl_attest.specs.Faults.{◌>>=◌, Gives, Place, start, quoted_at, all_of}
+use Rattle.kl_attest.specs.Faults.{Gives, start, quoted_at, all_of}
 use Rattle.kl_attest.specs.Views.{view}
 use Rattle.kl_attest.proofs.Misfits.{joined_append, joined_cons, joined_one, bind_err}
 use Rattle.kl_attest.proofs.FieldFaults.{err_test}

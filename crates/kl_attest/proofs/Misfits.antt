@@ -1,12 +1,9 @@
 -- Readers, each with the fields that it reads, and what it answers where one of them does not fit.
-use Rattle.std.proofs.Common.{◌≡◌, ◌≢◌, ℕ, zero, suc, ◌+◌, ◌^◌, ◌<◌, ◌≤◌, Bool, true, false, cond, eqb, ltb, ◌⊎◌, List, [], ◌∷◌, ◌++◌, length, get_or, take, drop, replicate, Result, Ok, Err, refl, sym, ap, subst, ◌∙◌, append_assoc, arith, inl, inr}
-use Rattle.std.specs.List.{flat_map, AllByRecursion}
-use Rattle.std.specs.Int.{Width, w8, w16, w32, w64, byte_len, from_be_bytes, to_be_bytes}
+use Rattle.std.proofs.Common.{◌≡◌, ℕ, ◌+◌, ◌⊎◌, List, [], ◌∷◌, ◌++◌, length, Result, Ok, Err, refl, sym, ap, subst, ◌∙◌, append_assoc, arith, inl, inr}
 use Rattle.std.proofs.lemmas.Grind.{flat_map-append}
 use Rattle.std.proofs.lemmas.List.{length-append, append-nil}
 use Rattle.std.proofs.lemmas.List.Concat.{flat_map-cons}
 use Rattle.kl_attest.specs.declared.fault.AttestFault.{AttestFault}
-use Rattle.kl_attest.specs.declared.fault.AttestFault.TheVariants.{Short, Magic, AttestType, Safe, Tail}
 use Rattle.kl_attest.specs.Grammar.{IsBytes}
 use Rattle.kl_attest.specs.FirstFault.{Field, field_text, joined, Misfits}
 use Rattle.kl_attest.specs.Faults.{◌>>=◌, Place}

@@ -1,20 +1,19 @@
 -- The reader answers the first field that does not fit.
-use Rattle.std.proofs.Common.{◌≡◌, ◌≢◌, ℕ, zero, suc, ◌+◌, ◌^◌, ◌<◌, ◌≤◌, Bool, true, false, cond, eqb, ◌⊎◌, List, [], ◌∷◌, ◌++◌, length, replicate, Result, Ok, Err, refl, sym, ap, subst, ◌∙◌, append_assoc, arith, inl, inr}
+use Rattle.std.proofs.Common.{◌≡◌, ℕ, zero, suc, ◌+◌, ◌^◌, ◌<◌, Bool, false, List, [], ◌∷◌, ◌++◌, length, replicate, Result, Ok, Err, refl, sym, ap, subst, ◌∙◌, arith}
 use Rattle.std.specs.List.{flat_map, AllByRecursion}
 use Rattle.std.specs.Int.{w8, w16, w32, w64, to_be_bytes}
-use Rattle.std.proofs.lemmas.Bool.{eqb-false, ne_eqb}
-use Rattle.std.proofs.lemmas.List.{append-nil, nil_from_length, length-append, length-replicate}
+use Rattle.std.proofs.lemmas.List.{append-nil, nil_from_length, length-replicate}
 use Rattle.std.proofs.lemmas.List.Concat.{flat_map-cons}
 use Rattle.kl_attest.specs.declared.fault.AttestFault.{AttestFault}
-use Rattle.kl_attest.specs.declared.fault.AttestFault.TheVariants.{Short, Magic, AttestType, Safe, Tail}
-use Rattle.kl_attest.specs.Grammar.{Selection, Quoted, magic, attest_quote, sized, selection_text, selections_text, text_of, IsBytes, IsSized, IsSelection, IsQuoted}
-use Rattle.kl_attest.specs.FirstFault.{Field, field_text, joined, sized_fields, clock_fields, selection_fields, fields_of, Misfits, HasMisfit, HasTail, IsFirstFault}
+use Rattle.kl_attest.specs.declared.fault.AttestFault.TheVariants.{Magic, AttestType}
+use Rattle.kl_attest.specs.Grammar.{Selection, Quoted, magic, attest_quote, IsBytes, IsSized, IsSelection, IsQuoted}
+use Rattle.kl_attest.specs.FirstFault.{Field, sized_fields, clock_fields, selection_fields, fields_of}
 use Rattle.kl_attest.specs.FirstFault.Field.{Free, Fixed, YesNo}
-use Rattle.kl_attest.specs.Faults.{◌>>=◌, Place, Clock, start, bytes_at, number_at, constant_at, sized_at, flag_at, clock_at, selection_at, selections_at, counted_at, header_at, quoted_at, all_of}
+use Rattle.kl_attest.specs.Faults.{◌>>=◌, Place, Clock, bytes_at, number_at, constant_at, sized_at, flag_at, clock_at, selection_at, selections_at, counted_at, header_at, quoted_at}
 use Rattle.kl_attest.proofs.Fields.{wide8, wide16, wide32, wide64}
-use Rattle.kl_attest.proofs.Quotes.{FitsClock, made_of, after_selections, after_firmware, after_clock, after_extra, after_signer}
-use Rattle.kl_attest.proofs.Misfits.{joined_append, joined_cons, Took, Got, Breaks, IsReader, Parts, bind_err, then_reads, end_reads, said_reads}
-use Rattle.kl_attest.proofs.FieldFaults.{zero_byte, zeros_fit, bytes_reads, number_reads, constant_then, constant_reads, err_test, flag_reads, sized_reads}
+use Rattle.kl_attest.proofs.Quotes.{FitsClock, made_of}
+use Rattle.kl_attest.proofs.Misfits.{IsReader, then_reads, end_reads, said_reads}
+use Rattle.kl_attest.proofs.FieldFaults.{zero_byte, zeros_fit, bytes_reads, number_reads, constant_then, constant_reads, flag_reads, sized_reads}
 
 -- ---- the clock
 

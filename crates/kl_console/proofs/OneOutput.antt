@@ -1,5 +1,5 @@
 -- A script prints one text at most, where the key object tells its answers and meets no fault.
-use Rattle.std.proofs.Common.{◌≡◌, ◌≢◌, ◌⊎◌, ℕ, suc, ◌+◌, ◌<◌, ◌≤◌, Bool, List, [], ◌∷◌, ◌++◌, length, get_or, All, Option, Some, None, refl, sym, ap, ◌∙◌, subst, inl, inr, arith, length-append, append_assoc}
+use Rattle.std.proofs.Common.{◌≡◌, ◌⊎◌, ℕ, suc, ◌+◌, ◌<◌, ◌≤◌, Bool, List, [], ◌∷◌, ◌++◌, length, get_or, All, Option, refl, sym, ap, ◌∙◌, subst, inl, inr, arith, length-append, append_assoc}
 use Rattle.std.proofs.Math.Bridge.{le_prop}
 use Rattle.std.proofs.Math.ListN.{get_or-append}
 use Rattle.std.proofs.Math.Seq.{get_or-append_seam}
@@ -34,7 +34,7 @@ use Rattle.kl_console.specs.Lines.{HasNoNewline, IsLine, ended}
 use Rattle.kl_console.specs.Terms.{IsFlatPolicy, IsRefusal, NamesTerms}
 use Rattle.kl_console.specs.Texts.{fault_text, judged_text, refused_text}
 use Rattle.kl_console.specs.Session.{KeyLog, Stage, Empty, Installed, Polled, Over, Adds, Concludes, Does, Follows, IsJudged, IsNext, IsNoCommand, Obeys, fields_of, state_after}
-use Rattle.kl_console.specs.Script.{IsBad, Session, printed}
+use Rattle.kl_console.specs.Script.{IsBad}
 use Rattle.kl_console.specs.Run.{IsDone, IsFaulty, IsSteady}
 
 -- ---- An add does one thing.

@@ -1,5 +1,5 @@
 -- A text has one fault at most, and where it has none it is the text of a quote.
-use Rattle.std.proofs.Common.{◌≡◌, ◌≢◌, ℕ, zero, suc, ◌+◌, ◌<◌, ◌≤◌, List, [], ◌∷◌, ◌++◌, codes, refl, sym, ap, ◌∙◌, subst, arith, inl, inr}
+use Rattle.std.proofs.Common.{◌≡◌, ℕ, zero, suc, ◌+◌, ◌<◌, ◌≤◌, List, [], ◌∷◌, ◌++◌, refl, sym, ap, ◌∙◌, subst, arith, inl, inr}
 use Rattle.std.proofs.lemmas.Bool.{cases_lt, cases_eq}
 use Rattle.std.specs.Result.{IfOk}
 use Rattle.std.specs.declared.result.Result.{Result}
@@ -8,7 +8,7 @@ use Rattle.kl_quote.specs.declared.quote.Quote.{Quote}
 use Rattle.kl_quote.specs.declared.quote.QuoteFault.{QuoteFault}
 use Rattle.kl_quote.specs.declared.quote.QuoteFault.TheVariants.{Form, Memory}
 use Rattle.kl_quote.specs.QuoteText.{base64, colons, text_of_parts, HasForm, AreParts, IsBase64, IsQuoteText, IsFormFault, FailsAs}
-use Rattle.kl_quote.proofs.Colons.{colons_after, colons_other}
+use Rattle.kl_quote.proofs.Colons.{colons_other}
 use Rattle.kl_quote.proofs.Splitting.{colons_behind_r, colons_cut, grouped, parts_form, parts_unique, quote_faultless}
 
 -- ---- one fault at most

@@ -1,8 +1,7 @@
 -- The words that a line was cut into, one by one.
-use Rattle.std.proofs.Common.{◌≡◌, ℕ, zero, suc, ◌+◌, ◌<◌, ◌≤◌, List, [], ◌∷◌, ◌++◌, length, get_or, map, codes, true, false, refl, sym, ap, subst, ◌∙◌, arith, length-append}
+use Rattle.std.proofs.Common.{◌≡◌, ℕ, ◌≤◌, List, [], ◌∷◌, length, get_or, map, codes, true, false, refl, sym, ap, subst, ◌∙◌, arith, length-append}
 use Rattle.std.proofs.Math.ListN.{get_or-map}
 use Rattle.std.proofs.lemmas.List.{length-map}
-use Rattle.std.specs.List.{join_with_byte}
 use denote.Ref.{Bor}
 use Rattle.kl_bank.specs.Banks.{name_of}
 use Rattle.kl_script.specs.Words.{HasNo, IsEscaped, IsField, IsSplit}

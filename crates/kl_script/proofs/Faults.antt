@@ -1,5 +1,5 @@
 -- A fault that is passed on.
-use Rattle.std.proofs.Common.{◌≡◌, Result, Ok, Err, sym, ◌∙◌}
+use Rattle.std.proofs.Common.{◌≡◌, Result, Ok, Err}
 use Rattle.kl_script.specs.declared.fault.CommandFault.{CommandFault}
 use Rattle.kl_script.specs.declared.fault.CommandFault.TheVariants.{NoCommand}
 

@@ -1,8 +1,7 @@
 -- What is a field and what is none, and that a field spells one text.
-use Rattle.std.proofs.Common.{◌≡◌, ◌≢◌, inl, inr, ℕ, ◌<◌, ◌≤◌, List, [], ◌∷◌, ◌++◌, length, get_or, codes, refl, sym, ap, subst, ◌∙◌, arith}
+use Rattle.std.proofs.Common.{◌≡◌, ◌≢◌, inl, inr, ℕ, ◌≤◌, List, [], ◌∷◌, length, sym, ap, subst, ◌∙◌, arith}
 use Rattle.std.proofs.lemmas.List.{nil_from_length}
 use Rattle.kl_script.specs.Words.{HasNo, IsEscaped, IsField}
-use Rattle.kl_script.proofs.Splitting.{heads, tails}
 use Rattle.kl_script.proofs.Escapes.{length-escaped, nothing_written, IsEscaped-same, zero_is_no_escape}
 
 pub field_found : (written text : List ℕ) → length written ≢ 0 → HasNo 32 written → IsEscaped written text → IsField written text

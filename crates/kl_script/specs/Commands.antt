@@ -1,6 +1,5 @@
 -- The commands of a script, and the lines that spell them.
-use Rattle.std.specs.Prelude.{◌≡◌, ℕ, ◌≤◌, List, [], ◌∷◌, ◌++◌, codes, Option, Result, Ok, Err, IsUtf8, ⊤}
-use Rattle.std.specs.Fmt.{decimal}
+use Rattle.std.specs.Prelude.{◌≡◌, ℕ, List, [], ◌∷◌, ◌++◌, codes, Option, Result, Ok, Err, IsUtf8, ⊤}
 use Rattle.kl_states.specs.Names.{IsAgentId, IsNonce}
 use Rattle.kl_bank.specs.declared.bank.Bank.{Bank}
 use Rattle.kl_bank.specs.Banks.{name_of}

@@ -1,10 +1,8 @@
 use Rattle.std.proofs.Common.{◌≡◌, ◌≢◌, ℕ, List, [], ◌∷◌, Err, codes, refl, sym, ap, subst, ◌∙◌, rules}
 use Rattle.std.proofs.lemmas.Bool.{false≢true}
 use Rattle.std.proofs.lemmas.Result.{err_from_is_err_and}
-use Rattle.std.specs.String.{string_bytes}
 use Rattle.kl_states.specs.Names.{IsAgentId}
 use Rattle.kl_bank.specs.Banks.{name_of}
-use Rattle.kl_script.specs.Commands.{AddFields, SpellsAdd}
 use Rattle.kl_script.specs.Words.{IsField, IsEscaped, IsSplit}
 use Rattle.kl_script.specs.Digits.{IsKey, IsMask, IsShare}
 use Rattle.kl_script.specs.Statics.{IsStatics}

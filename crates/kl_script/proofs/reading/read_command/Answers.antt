@@ -1,7 +1,6 @@
 use Rattle.std.proofs.Common.{◌≡◌, ℕ, List, Err, subst}
-use Rattle.std.specs.Prelude.{IfOk}
 use Rattle.kl_script.specs.declared.fault.CommandFault.TheVariants.{NoCommand}
-use Rattle.kl_script.specs.Commands.{CommandFields, Spells, IsRead, fields}
+use Rattle.kl_script.specs.Commands.{CommandFields, Spells, IsRead}
 use Rattle.kl_script.proofs.Unique.{read_as}
 use Rattle.kl_script.proofs.reading.read_command.Goals as goal
 

@@ -1,8 +1,6 @@
-use Rattle.std.proofs.Common.{◌≡◌, ◌≢◌, ℕ, ◌≤◌, List, [], ◌∷◌, Err, codes, length, refl, sym, ap, subst, ◌∙◌, rules, arith}
+use Rattle.std.proofs.Common.{◌≡◌, ◌≢◌, ℕ, List, [], ◌∷◌, Err, codes, sym, ap, subst, rules, arith}
 use Rattle.std.proofs.lemmas.Result.{err_from_is_err_and}
 use Rattle.std.specs.String.{string_bytes}
-use Rattle.kl_quote.specs.Size.{total_bytes}
-use Rattle.kl_script.specs.Commands.{ReplyFields, SpellsReply}
 use Rattle.kl_script.specs.Words.{IsField, IsEscaped, IsNumber, IsSplit}
 use Rattle.kl_script.proofs.Faults.{passed_on}
 use Rattle.kl_script.proofs.Arguments.{word, reply_words, split_five, reply_fits}

@@ -1,7 +1,7 @@
-use Rattle.std.proofs.Common.{◌≡◌, List, ℕ, Err, sym, ap, subst, ◌∙◌}
+use Rattle.std.proofs.Common.{List, ℕ, Err, sym, ap, subst}
 use Rattle.std.proofs.lemmas.Result.{err_from_is_err_and}
 use Rattle.kl_script.specs.Digits.{IsDigest}
-use Rattle.kl_script.specs.Statics.{AreSpelled, IsStatic, pieces_at}
+use Rattle.kl_script.specs.Statics.{AreSpelled, pieces_at}
 use Rattle.kl_script.proofs.Faults.{passed_on}
 use Rattle.kl_script.proofs.Fixed.{static_cut, static_uncut}
 use Rattle.kl_script.proofs.statics.read_static.Goals as goal

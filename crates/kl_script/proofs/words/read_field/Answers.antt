@@ -1,4 +1,4 @@
-use Rattle.std.proofs.Common.{◌≡◌, ◌≢◌, ℕ, length, get_or, lit<, sym, ap, ◌∙◌, eqb, true, false}
+use Rattle.std.proofs.Common.{◌≢◌, length, lit<, sym, ◌∙◌, true, false}
 use Rattle.std.proofs.lemmas.Bool.{false≢true, eqb-true, eqb-false}
 use Rattle.std.proofs.lemmas.Result.{IfOk-weaker}
 use Rattle.std.proofs.lemmas.Str.Pattern.{contains_char}

@@ -29,11 +29,11 @@ struct Case {
 
 impl Case {
     /// The case of a first line, without its mark. Its script is empty.
-    fn begin(alloc: Global, head: &str) -> Result<Case, AllocError> {
+    fn begin(alloc: Global, head: &str) -> Result<Case> {
         let (fault, name) = head.split_once(' ').unwrap_or(("-", head));
         Ok(Case {
             name: String::from_str(alloc, name)?,
-            fault: fault.parse::<u64>().ok(),
+            fault: fault_of(fault)?,
             script: String::new(alloc),
         })
     }
@@ -43,6 +43,17 @@ impl Case {
         self.script.push_str(line)?;
         self.script.push_str("\n")
     }
+}
+
+/// The call that fails, where one does.
+fn fault_of(word: &str) -> Result<Option<u64>> {
+    if word == "-" {
+        return Ok(None);
+    }
+    let Ok(number) = word.parse::<u64>() else {
+        bail!("{word}: no number of a call");
+    };
+    Ok(Some(number))
 }
 
 fn main(rt: HostRuntime) -> Result<()> {

@@ -1,9 +1,10 @@
 -- The outcome of an appraisal: that of the first rule that applies.
-use Rattle.std.specs.Prelude.{◌≡◌, ℕ, Bool, Option, None, Some, List, []}
+use Rattle.std.specs.Prelude.{◌≡◌, ℕ, Bool, Option, None, Some, List, [], ⊤}
 use Rattle.kl_attest.specs.Grammar.{Quoted}
 use Rattle.kl_quote.specs.declared.evidence.Evidence.{Evidence}
 use Rattle.kl_states.specs.declared.verdict.Verdict.{Verdict}
 use Rattle.kl_states.specs.declared.verdict.Verdict.TheVariants.{Pass, Failed, Invalid}
+use Rattle.kl_states.specs.declared.verdict.FailedCause.TheVariants.{Pcr, Line, ListFull, Unmatched, Entry}
 use Rattle.kl_appraise.specs.declared.judged.Boot.{Boot}
 use Rattle.kl_appraise.specs.Terms.{TermsFields}
 use Rattle.kl_appraise.specs.Evidence.{Attests}
@@ -33,3 +34,13 @@ abbrev pub boot_with : Verdict → Boot → Option Boot
 boot_with (Pass _) boot = Some boot
 boot_with (Failed _) boot = None
 boot_with (Invalid _) boot = None
+
+-- the verdict is one that the list's replay decides: it is given by one of rules 15 to 17
+abbrev pub IsReplayed : Verdict → Type 0
+IsReplayed (Pass _) = ⊤
+IsReplayed (Failed Unmatched) = ⊤
+IsReplayed (Failed (Entry _ _)) = ⊤
+IsReplayed (Failed (Pcr _)) = ⊥
+IsReplayed (Failed (Line _ _)) = ⊥
+IsReplayed (Failed ListFull) = ⊥
+IsReplayed (Invalid _) = ⊥

@@ -1,6 +1,6 @@
 //! The rules beyond the quote: where the list begins, the static PCRs, and the measurement list.
 
-ghost use Rattle.std.specs.Prelude.{◌≡◌, ◌+◌, ◌*◌, ◌≤◌, ℕ, Bool, List, length, count_ones, IfOk, IfErr};
+ghost use Rattle.std.specs.Prelude.{◌≡◌, ◌⊎◌, ◌+◌, ◌*◌, ◌≤◌, ℕ, Bool, List, length, count_ones, IfOk, IfErr};
 ghost use Rattle.kl_bank.specs.Banks.{size_of};
 ghost use Rattle.kl_entry.specs.Lines.{lines_of};
 ghost use Rattle.kl_entry.specs.declared.fault.LineFault.{LineFault};
@@ -8,7 +8,7 @@ ghost use Rattle.kl_pcr.specs.Values.{value_at};
 ghost use Rattle.kl_appraise.specs.Evidence.{HasValues};
 ghost use Rattle.kl_appraise.specs.ListRules.{ListVerdict, IsFirstBadLine, line_cause, entry_cause};
 ghost use Rattle.kl_appraise.specs.Listed.{JudgesEntries};
-ghost use Rattle.kl_appraise.specs.Outcome.{whole_case};
+ghost use Rattle.kl_appraise.specs.Outcome.{whole_case, IsReplayed};
 
 use crate::fault::AppraiseError;
 use crate::listed::{ListFault, read_entries};
@@ -42,6 +42,7 @@ pub fn judge_list<L: Ledger>(
     ensures memory { IfErr result (λ e. e ≡ AppraiseError.Memory) }
     ensures cost { steps.new ≤ steps.old + length (lines_of evidence.now.list) }
     ensures unread { (place : ℕ) (fault : LineFault) → IsFirstBadLine evidence.now.list place fault → steps.new ≡ steps.old }
+    ensures idle { IfOk result (λ v. IsReplayed v ⊎ (steps.new ≡ steps.old)) }
 {
     if evidence.start != 0 {
         return Ok(Verdict::Invalid(InvalidCause::Start));
@@ -72,6 +73,7 @@ fn judge_entries<L: Ledger>(
     requires { length values.now ≡ size_of terms.now.bank * count_ones terms.now.mask }
     ensures rules { JudgesEntries terms.now entries.now (value_at terms.now.bank terms.now.mask values.now LIST_PCR) result }
     ensures cost { steps.new ≤ steps.old + length entries.now }
+    ensures replayed { IsReplayed result }
 {
     let Some(quoted) = value(terms.bank(), terms.mask(), values, LIST_PCR) else {
         unreachable!()

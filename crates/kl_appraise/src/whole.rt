@@ -6,7 +6,7 @@ ghost use Rattle.kl_keys.specs.Causes.{HasCause};
 ghost use Rattle.kl_entry.specs.declared.fault.LineFault.{LineFault};
 ghost use Rattle.kl_appraise.specs.QuoteRules.{IsAnswered, IsUnasked};
 ghost use Rattle.kl_appraise.specs.ListRules.{check_of, IsFirstBadLine};
-ghost use Rattle.kl_appraise.specs.Outcome.{whole_case, IsVerdict, HasBoot, boot_with};
+ghost use Rattle.kl_appraise.specs.Outcome.{whole_case, IsVerdict, IsReplayed, HasBoot, boot_with};
 ghost use Rattle.kl_appraise.specs.Genuine.{IsGenuine, AllowsList, IsPass};
 
 use crate::fault::AppraiseError;
@@ -67,6 +67,8 @@ pub fn appraise_whole<Y: Keys, L: Ledger>(
     ensures cause { HasCause (Y.fault_count keys.old) (Y.fault_count keys.new) (IsErrOf result AppraiseError.Keys) }
     // At most each entry is measured once.
     ensures cost { steps.new ≤ steps.old + length (lines_of evidence.now.list) }
+    // None is, where no replay of the list decides: one of rules 1 to 14 gives the verdict.
+    ensures idle { IfOk result (λ judged. IsReplayed judged.verdict ⊎ (steps.new ≡ steps.old)) }
     // None is, where a line is no entry.
     ensures unread { (place : ℕ) (fault : LineFault) → IsFirstBadLine evidence.now.list place fault → steps.new ≡ steps.old }
 {

@@ -65,7 +65,7 @@ pub fn appraise_whole<Y: Keys, L: Ledger>(
     ensures told { Y.told keys.new ≡ Y.told keys.old }
     // The count of faults never falls, and it rose where the key object is blamed.
     ensures cause { HasCause (Y.fault_count keys.old) (Y.fault_count keys.new) (IsErrOf result AppraiseError.Keys) }
-    // At most each entry is measured once.
+    // At most as many entries are measured as the list has lines.
     ensures cost { steps.new ≤ steps.old + length (lines_of evidence.now.list) }
     // None is, where no replay of the list decides: one of rules 1 to 14 gives the verdict.
     ensures idle { IfOk result (λ judged. IsReplayed judged.verdict ⊎ (steps.new ≡ steps.old)) }

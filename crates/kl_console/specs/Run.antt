@@ -26,7 +26,7 @@ IsFaulty keys left consumed written =
     (s : Session keys) × (rest : List ℕ) × (consumed ≡ ended s.lines ++ rest) × IsBad left s.stage rest
     × (written ≡ printed s ++ fault_text (next_number s))
 
--- the script could be read no further than this, in the midst of a line or behind one; the texts of all lines were written
+-- what was read ends in the midst of a line or behind one; the texts of all lines were written
 abbrev pub IsBroken : KeyLog → List ℕ → List ℕ → Type 0
 IsBroken keys consumed written =
     (s : Session keys) × (part : List ℕ) × (consumed ≡ ended s.lines ++ part) × IsLine part × (written ≡ printed s)
@@ -61,7 +61,7 @@ HasReply keys consumed written IsSo =
 abbrev pub IsPaid : ℕ → ℕ → Stage → ReplyFields → Type 0
 IsPaid before after stage r = IsPolled stage × (after ≤ before + length (lines_of r.list))
 
--- no step was taken, or a reply was read that was awaited, and the steps were taken for that
+-- the count of steps did not rise, or a reply was read that was awaited, and it rose by at most one for each line of its list
 abbrev pub Costs : KeyLog → ℕ → ℕ → List ℕ → List ℕ → Type 0
 Costs keys before after consumed written = (after ≤ before) ⊎ HasReply keys consumed written (IsPaid before after)
 
@@ -73,7 +73,7 @@ Asks keys left left' held held' = Ran left left' held held' (λ consumed written
 abbrev pub IsStatus : ℕ → Type 0
 IsStatus n = (n ≡ 0) ⊎ ((n ≡ 2) ⊎ ((n ≡ 3) ⊎ ((n ≡ 4) ⊎ ((n ≡ 5) ⊎ (n ≡ 70)))))
 
--- the key object tells its answers, and met no fault
+-- the key object tells its answers, and its count of faults did not rise
 pub record IsSteady (keys : KeyLog) : Type 0 where
   pub relations : Relations
   pub told : keys.told ≡ Some relations

@@ -40,8 +40,9 @@ impl End {
 /// Does what the words of the command line say, and answers the number with which the program ends.
 ///
 /// The words are `run`. The script is read line by line; each line is executed once its newline was read, and what it
-/// prints is written before the next line is read. A script has at most three lines, in this order: an `add`, a `begin` of the agent that was
-/// added, and a `reply`, which is appraised. A refused `add` ends the session, and so does a `reply`.
+/// prints is written before the next line is executed (so the program is written; no clause says the order). A script has at
+/// most three lines, in this order: an `add`, a `begin` of the agent that was added, and a `reply`, which is appraised. A
+/// refused `add` ends the session, and so does a `reply`.
 ///
 /// | number | where |
 /// |---|---|
@@ -92,13 +93,13 @@ pub fn run<S: Source, K: Sink, Y: Keys, L: Ledger>(
     ensures unread { result ≡ 2 → script.new ≡ script.old }
     ensures unwritten { result ≡ 2 → out.new ≡ out.old }
     ensures unasked { result ≡ 2 → (keys.new ≡ keys.old) × (steps.new ≡ steps.old) }
-    // A step is taken only once the reply that was awaited was read and the texts of the lines before it were written, and
-    // at most one for each line of its list.
+    // A step was taken only where the reply that was awaited was read and the texts of the lines before it were written,
+    // and at most one for each line of its list.
     ensures cost { Ran (S.left script.old) (S.left script.new) (K.held out.old) (K.held out.new) (Costs
         (record { told = Y.told keys.old; before = Y.fault_count keys.old; after = Y.fault_count keys.new })
         steps.old steps.new) }
-    // The key object is left as it was, unless a reply was read that it is to be asked about, once the texts of the
-    // lines before it were written.
+    // The key object is left as it was, unless a reply was read that it is to be asked about, and the texts of the lines
+    // before it were written.
     ensures asked { (keys.new ≡ keys.old) ⊎ Asks
         (record { told = Y.told keys.old; before = Y.fault_count keys.old; after = Y.fault_count keys.new })
         (S.left script.old) (S.left script.new) (K.held out.old) (K.held out.new) }

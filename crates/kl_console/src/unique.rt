@@ -1,12 +1,12 @@
-//! That a script has one output.
+//! That what was read has one output.
 
 ghost use Rattle.std.specs.Prelude.{◌≡◌, List, Option, ℕ};
 ghost use Rattle.kl_console.specs.Session.{KeyLog};
 ghost use Rattle.kl_console.specs.Run.{IsDone, IsFaulty, IsSteady};
 
 /// The bytes that a run read decide what it writes with status 0, what it writes with status 3, and which of the two it is,
-/// where the key object tells its answers and meets no fault. So no other program that meets the contract of
-/// [`run`](crate::run) prints something else.
+/// where the key object tells its answers and its count of faults did not rise. So two runs that read the same bytes, and end
+/// with 0 or 3, wrote the same.
 ///
 /// The function does nothing: its contract is the theorem.
 pub fn one_output()

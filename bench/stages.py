@@ -22,8 +22,6 @@ from make_script import ev, path_of
 from run import PROGRAM, timed
 
 
-
-
 def scripts(entries, folder):
     """The five scripts, by name."""
     source = random.Random(1)

@@ -2,8 +2,8 @@
 """Checks docs/GUARANTEES.md against the sources, in both directions.
 
 Each `crate::function`, `crate::Type::method` or `crate::Trait::method` that a row names has each clause that the row's last
-column names; `the clause` is one without a name. And each function that a crate exports, with each of its named clauses,
-stands in some row, so that no promise is left out.
+column names; `the clause` is a promise without a name. And each function that a crate exports and that promises something
+stands in some row with each of its promises, so that none is left out. Conditions (`requires`) may be named, and need not be.
 """
 import pathlib
 import re
@@ -14,6 +14,7 @@ CRATES = ROOT / "crates"
 BLOCK = re.compile(r"^(?:pub )?(?:unsafe )?(impl|trait)\b(.*)$")
 FUNCTION = re.compile(r"^( *)(pub(?:\([a-z]+\))? )?(?:const )?fn (\w+)")
 CLAUSE = re.compile(r"^\s*(ensures|requires)\*? (?:(\w+) )?\{")
+UNNAMED = "the clause"
 EXPORT = re.compile(r"pub use \w+::(?:\{([^}]*)\}|(\w+));")
 
 
@@ -67,11 +68,10 @@ def functions_of(crate):
                 public = function.group(2) == "pub " or (inside and (kind == "trait" or implemented is not None))
                 name = f"{owner}::{function.group(3)}" if inside else function.group(3)
                 current = found.setdefault(name, Function(public))
-                current.implements = implemented if inside else None
             clause = CLAUSE.match(line)
             if clause and current is not None:
                 wanted = current.promises if clause.group(1) == "ensures" else current.conditions
-                wanted.add(clause.group(2) or "the clause")
+                wanted.add(clause.group(2) or UNNAMED)
     return found
 
 
@@ -106,7 +106,8 @@ def faults_of(text):
                 continue
             named.setdefault(name, set()).update(clauses)
             for clause in clauses:
-                if clause not in function.promises | function.conditions:
+                named_condition = clause != UNNAMED and clause in function.conditions
+                if clause not in function.promises and not named_condition:
                     yield f"line {number}: {name} has no clause {clause}"
     for crate, functions in crates.items():
         exported = exports_of(crate)

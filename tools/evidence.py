@@ -9,7 +9,6 @@ import struct
 from dataclasses import dataclass, field
 
 BANKS = {"sha1": (0x0004, 20), "sha256": (0x000B, 32), "sha384": (0x000C, 48)}
-MASK = 0x10400
 AK = bytes.fromhex("6b31")
 PUBLIC = "PUB"
 V = "22" * 32

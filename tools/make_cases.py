@@ -11,7 +11,7 @@ import sys
 from dataclasses import dataclass
 
 import evidence as ev
-from evidence import BOOT_AGGREGATE, ENV, POLICY, SHELL, UNLISTED, Entry
+from evidence import BOOT_AGGREGATE, POLICY, SHELL, UNLISTED, Entry
 
 ROOT = pathlib.Path(__file__).resolve().parent.parent
 INSTALLED = "installed a1 generation 1\n"
@@ -149,7 +149,6 @@ for name, line in {
 
 # ---- two neighbouring rules apply: the earlier one decides
 quote = ev.Quote("sha256", "n1", {10: ev.replay("sha256", GOOD), 16: ev.binding("sha256")})
-R = {}
 
 
 def neighbours(rules, quote_text, entries, verdict, **more):
@@ -215,23 +214,41 @@ def wrongly_run(program):
     return wrong
 
 
-def main():
-    if sys.argv[1:2] == ["--run"]:
-        wrong = wrongly_run(sys.argv[2])
-        for name in wrong:
-            print(f"{name} is not printed as stated")
-        return 1 if wrong else 0
-    stale = [path for path, text in files().items()
+def stale_files():
+    """The files that are not as they would be written, and the examples that would not be written at all."""
+    made = files()
+    stale = [path for path, text in made.items()
              if not (ROOT / path).exists() or (ROOT / path).read_bytes() != text.encode()]
-    if "--check" in sys.argv[1:]:
-        for path in stale:
-            print(f"{path} is not what tools/make_cases.py writes")
-        return 1 if stale else 0
+    there = [f"examples/{path.name}" for path in sorted((ROOT / "examples").iterdir())]
+    return stale + [path for path in there if path not in made]
+
+
+def main():
+    match sys.argv[1:]:
+        case ["--run", program]:
+            wrong = wrongly_run(program)
+            for name in wrong:
+                print(f"{name} is not printed as stated")
+            return 1 if wrong else 0
+        case ["--check"]:
+            stale = stale_files()
+            for path in stale:
+                print(f"{path} is not what tools/make_cases.py writes")
+            return 1 if stale else 0
+        case []:
+            write_files()
+            return 0
+        case _:
+            print(__doc__, file=sys.stderr)
+            return 2
+
+
+def write_files():
+    stale = stale_files()
     for path, text in files().items():
         (ROOT / path).parent.mkdir(parents=True, exist_ok=True)
         (ROOT / path).write_bytes(text.encode())
     print(f"{len(CASES)} cases; {len(stale)} files changed")
-    return 0
 
 
 if __name__ == "__main__":

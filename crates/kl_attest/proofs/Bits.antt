@@ -1,27 +1,13 @@
--- The bits of a byte, and the sum of a byte's bits at their worth.
-use Rattle.std.proofs.Common.{◌≡◌, ℕ, zero, suc, ◌+◌, ◌*◌, ◌/◌, ◌%◌, ◌<◌, Bool, true, false, cond, eqb, List, [], ◌∷◌, get_or, refl, sym, ◌∙◌, arith, inl, inr}
+-- The bits of a byte, and the PCRs that they are.
+use Rattle.std.proofs.Common.{◌≡◌, ℕ, zero, suc, ◌+◌, ◌*◌, ◌/◌, ◌%◌, ◌<◌, Bool, true, false, eqb, List, [], ◌∷◌, get_or, refl, sym, ◌∙◌, arith, inl, inr}
 use Rattle.std.specs.Int.{w8, bit_at, trailing_zeros}
 use Rattle.std.proofs.lemmas.Bool.{cases_eq, eqb-true, eq-eqb, and_parts}
 use Rattle.std.proofs.lemmas.List.{get_or_past}
-use Rattle.std.proofs.lemmas.Nat.{mod-pow-add, div-mul-add, mod-mul-add}
+use Rattle.std.proofs.lemmas.Nat.{div-mul-add, mod-mul-add}
 use Rattle.std.proofs.lemmas.Nat.Bits.{bit_at-zero, bit_at-trailing_zeros}
-use Rattle.kl_attest.specs.Grammar.{IsBytes, Selection}
+use Rattle.kl_base.specs.Bytes.{IsBytes}
+use Rattle.kl_attest.specs.Grammar.{Selection}
 use Rattle.kl_attest.specs.Pcrs.{has_pcr, is_zero, IsEmptySelection}
-
--- what a bit is worth
-pub bit_worth : (x w : ℕ) → x < 2 → cond (eqb x 1) w 0 ≡ x * w
-bit_worth x w lt =
-    elim (cases_eq x 1) [
-      | inl one ↦ rw one (omega arith)
-      | inr other ↦ let none : x ≡ 0 = omega arith in rw none (omega arith)
-    ]
-
-bit_lt : (b k : ℕ) → bit_at b k < 2
-bit_lt b k = omega arith
-
--- a byte is the sum of its bits
-pub byte_bits : (b : ℕ) → b < 256 → bit_at b 0 * 1 + bit_at b 1 * 2 + bit_at b 2 * 4 + bit_at b 3 * 8 + bit_at b 4 * 16 + bit_at b 5 * 32 + bit_at b 6 * 64 + bit_at b 7 * 128 ≡ b
-byte_bits b lt = omega (arith, mod-pow-add b 1 0, mod-pow-add b 1 1, mod-pow-add b 1 2, mod-pow-add b 1 3, mod-pow-add b 1 4, mod-pow-add b 1 5, mod-pow-add b 1 6, mod-pow-add b 1 7)
 
 -- a byte that is not 0 has a bit
 pub set_bit : (b : ℕ) → 0 < b → b < 256 → (k : ℕ) × (k < 8) × (bit_at b k ≡ 1)
@@ -29,12 +15,12 @@ set_bit b some lt =
     let t = bit_at-trailing_zeros w8 b some lt in
     (trailing_zeros w8 b, t.0, t.1)
 
--- where that bit is a PCR
-pub pcr_in : (select : List ℕ) (i k : ℕ) → k < 8 → bit_at (get_or select i 0) k ≡ 1 → has_pcr select (i * 8 + k) ≡ true
-pcr_in select i k lt h =
+-- bit k of byte i is PCR 8 * i + k
+pub has_pcr-at : (select : List ℕ) (i k : ℕ) → k < 8 → has_pcr select (i * 8 + k) ≡ eqb (bit_at (get_or select i 0) k) 1
+has_pcr-at select i k lt =
     let byte : (i * 8 + k) / 8 ≡ i = div-mul-add i 8 k lt in
     let bit : (i * 8 + k) % 8 ≡ k = mod-mul-add i 8 k lt in
-    rw (byte, bit, h) refl
+    rw (byte, bit) refl
 
 pub none_in : (select : List ℕ) (n : ℕ) → get_or select (n / 8) 0 ≡ 0 → has_pcr select n ≡ false
 none_in select n h = rw (h, bit_at-zero (n % 8)) refl
@@ -64,7 +50,7 @@ empty_of s e = λ n. none_in s.select n (zero_at s.select e (n / 8))
 pub pcr_of : (select : List ℕ) (i : ℕ) → IsBytes select → 0 < get_or select i 0 → (k : ℕ) × (k < 8) × (has_pcr select (i * 8 + k) ≡ true)
 pcr_of select i fits some =
     let bit = set_bit (get_or select i 0) some (fits i) in
-    (bit.0, bit.1, pcr_in select i bit.0 bit.1 bit.2)
+    (bit.0, bit.1, has_pcr-at select i bit.0 bit.1 ∙ rw bit.2 refl)
 
 pub chosen_of : (s : Selection) → IsBytes s.select → is_zero s.select ≡ false → IsEmptySelection s → ⊥
 chosen_of s fits e empty =

@@ -1,9 +1,12 @@
--- Texts that are written one after the other.
-use Rattle.std.proofs.Common.{◌≡◌, ℕ, List, [], ◌++◌, ◌∙◌, append_assoc}
+-- Fields that are written one after the other.
+use Rattle.std.proofs.Common.{◌≡◌, ℕ, List, [], ◌∷◌, ◌++◌, sym, ap, ◌∙◌, append_assoc}
+use Rattle.std.proofs.lemmas.List.{append-nil}
+use Rattle.kl_attest.specs.Grammar.{Field, field_text, joined}
+use Rattle.kl_attest.proofs.Readers.{joined_append}
 
-pub joined : (old a b c d e1 e2 e3 new : List ℕ) → e1 ≡ old ++ a → e2 ≡ e1 ++ b → e3 ≡ e2 ++ c → new ≡ e3 ++ d → new ≡ old ++ (a ++ (b ++ (c ++ d)))
-joined old a b c d e1 e2 e3 new p q r s = s ∙ rw (r, q, p) (simp append_assoc)
+pub put_one : (f : Field) (old new text : List ℕ) → new ≡ old ++ text → text ≡ field_text f → new ≡ old ++ joined (f ∷ [])
+put_one f old new text e is = e ∙ ap (λ (t : List ℕ). old ++ t) (is ∙ sym (append-nil (field_text f)))
 
-pub whole : (m t s e k f n d e0 e1 e2 e3 e4 new : List ℕ) → e0 ≡ [] → e1 ≡ e0 ++ (m ++ (t ++ (s ++ e))) → e2 ≡ e1 ++ k → e3 ≡ e2 ++ f → e4 ≡ e3 ++ n → new ≡ e4 ++ d
-    → new ≡ m ++ (t ++ (s ++ (e ++ (k ++ (f ++ (n ++ d))))))
-whole m t s e k f n d e0 e1 e2 e3 e4 new o p q r u v = v ∙ rw (u, r, q, p, o) (simp append_assoc)
+pub put_more : (xs ys : List Field) (old mid new : List ℕ) → mid ≡ old ++ joined xs → new ≡ mid ++ joined ys → new ≡ old ++ joined (xs ++ ys)
+put_more xs ys old mid new e f =
+    f ∙ ap (λ (t : List ℕ). t ++ joined ys) e ∙ append_assoc old (joined xs) (joined ys) ∙ ap (λ (t : List ℕ). old ++ t) (sym (joined_append xs ys))

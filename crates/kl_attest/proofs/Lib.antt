@@ -1,11 +1,9 @@
-pub mod Steps
+pub mod Readers
 pub mod Fields
 pub mod Quotes
+pub mod FirstFaults
+pub mod Steps
 pub mod Bits
 pub mod Masks
 pub mod Lone
 pub mod Joins
-pub mod Misfits
-pub mod FieldFaults
-pub mod QuoteFaults
-pub mod FirstFaults

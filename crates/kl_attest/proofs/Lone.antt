@@ -5,12 +5,13 @@ use Rattle.std.specs.List.{filter, AllByRecursion}
 use Rattle.std.proofs.lemmas.List.Elements.{All-from_recursion, recursion_from_All, filter-append}
 use Rattle.kl_attest.specs.declared.fault.AttestFault.{AttestFault}
 use Rattle.kl_attest.specs.declared.cursor.BankSelection.{BankSelection}
-use Rattle.kl_attest.specs.Grammar.{Selection, IsBytes, IsSelection}
+use Rattle.kl_base.specs.Bytes.{IsBytes}
+use Rattle.kl_attest.specs.Grammar.{Selection, IsSelection}
 use Rattle.kl_attest.specs.Pcrs.{is_zero, mask_of, AreBelow24, IsEmptySelection, IsLone, OneSet}
-use Rattle.kl_attest.specs.Faults.{Place, selection_at, selections_at, listed}
-use Rattle.kl_attest.specs.Readers.{selection_of}
+use Rattle.kl_attest.specs.Inner.Reading.{Place, selection_at, listed_at, listed}
+use Rattle.kl_attest.specs.Inner.Seen.{selection_of}
 use Rattle.kl_attest.proofs.Bits.{empty_of, chosen_of, zero_of}
-use Rattle.kl_attest.proofs.Quotes.{selections_take}
+use Rattle.kl_attest.proofs.Quotes.{listed_reads}
 use Rattle.kl_attest.proofs.Steps.{goes, none_left}
 
 abbrev pub is_chosen : Selection → Bool
@@ -21,12 +22,12 @@ chosen ss = filter is_chosen ss
 
 -- ---- all that were read are selections
 
-listed_fit : (n : ℕ) (p : Place) (r : Result (List Selection × Place) AttestFault) → IsBytes p.rest → selections_at n p ≡ r → AllByRecursion IsSelection (listed r)
-listed_fit n p (Ok x) fits e = (selections_take n p x fits e).2
+listed_fit : (n : ℕ) (p : Place) (r : Result (List Selection × Place) AttestFault) → IsBytes p.rest → listed_at n p ≡ r → AllByRecursion IsSelection (listed r)
+listed_fit n p (Ok x) fits e = ((listed_reads n).takes p x fits e).1.1
 listed_fit n p (Err d) fits e = tt
 
-pub are_selections : (n : ℕ) (p : Place) → IsBytes p.rest → AllByRecursion IsSelection (listed (selections_at n p))
-are_selections n p fits = listed_fit n p (selections_at n p) fits refl
+pub are_selections : (n : ℕ) (p : Place) → IsBytes p.rest → AllByRecursion IsSelection (listed (listed_at n p))
+are_selections n p fits = listed_fit n p (listed_at n p) fits refl
 
 -- ---- from what the filter leaves
 
@@ -89,11 +90,11 @@ kept (Some s) = selection_of s ∷ []
 
 -- what was found, and what is still to be read
 pub record Seeks (count i : ℕ) (p : Place) (found : Option BankSelection) (ss : List Selection) : Type 0 where
-  pub ok : IsOk (selections_at (count - i) p)
+  pub ok : IsOk (listed_at (count - i) p)
   pub each : AllByRecursion IsSelection ss
-  pub left : kept found ++ chosen (listed (selections_at (count - i) p)) ≡ chosen ss
+  pub left : kept found ++ chosen (listed (listed_at (count - i) p)) ≡ chosen ss
 
-pub seeks_from : (count : ℕ) (p : Place) (ss : List Selection) → IsBytes p.rest → IsOk (selections_at count p) → listed (selections_at count p) ≡ ss → Seeks count 0 p None ss
+pub seeks_from : (count : ℕ) (p : Place) (ss : List Selection) → IsBytes p.rest → IsOk (listed_at count p) → listed (listed_at count p) ≡ ss → Seeks count 0 p None ss
 seeks_from count p ss fits ok e =
     let each : AllByRecursion IsSelection ss = subst (λ (t : List Selection). AllByRecursion IsSelection t) e (are_selections count p fits) in
     let same : count - 0 ≡ count = omega arith in
@@ -103,14 +104,14 @@ pub seeks_past : (count i : ℕ) (p : Place) (found : Option BankSelection) (ss 
     → is_zero s.select ≡ true → Seeks count i p found ss → Seeks count (i + 1) q found ss
 seeks_past count i p found ss s q lt h zero_in so_far =
     let g = goes count i p s q lt h so_far.ok in
-    let step : chosen (listed (selections_at (count - i) p)) ≡ chosen (listed (selections_at (count - (i + 1)) q)) = ap chosen g.first ∙ rw zero_in refl in
+    let step : chosen (listed (listed_at (count - i) p)) ≡ chosen (listed (listed_at (count - (i + 1)) q)) = ap chosen g.first ∙ rw zero_in refl in
     record { ok = g.ok; each = so_far.each; left = ap (λ (t : List Selection). kept found ++ t) (sym step) ∙ so_far.left }
 
 stays : (count i : ℕ) (p : Place) (found : Option BankSelection) (ss : List Selection) (s : Selection) (q : Place) → i < count → selection_at p ≡ Ok (s, q)
-    → is_zero s.select ≡ false → Seeks count i p found ss → IsOk (selections_at (count - (i + 1)) q) × (kept found ++ (s ∷ chosen (listed (selections_at (count - (i + 1)) q))) ≡ chosen ss)
+    → is_zero s.select ≡ false → Seeks count i p found ss → IsOk (listed_at (count - (i + 1)) q) × (kept found ++ (s ∷ chosen (listed (listed_at (count - (i + 1)) q))) ≡ chosen ss)
 stays count i p found ss s q lt h some so_far =
     let g = goes count i p s q lt h so_far.ok in
-    let step : chosen (listed (selections_at (count - i) p)) ≡ s ∷ chosen (listed (selections_at (count - (i + 1)) q)) = ap chosen g.first ∙ rw some refl in
+    let step : chosen (listed (listed_at (count - i) p)) ≡ s ∷ chosen (listed (listed_at (count - (i + 1)) q)) = ap chosen g.first ∙ rw some refl in
     (g.ok, ap (λ (t : List Selection). kept found ++ t) (sym step) ∙ so_far.left)
 
 pub seeks_found : (count i : ℕ) (p : Place) (found : Option BankSelection) (ss : List Selection) (s : BankSelection) (q : Place) → i < count → selection_at p ≡ Ok (selection_of s, q)
@@ -126,7 +127,7 @@ pub seeks_two : (count i : ℕ) (p : Place) (found : Option BankSelection) (ss :
 seeks_two count i p None ss s q one lt h some second so_far alone = absurd cc
 seeks_two count i p (Some o) ss s q one lt h some second so_far alone =
     let g = stays count i p (Some o) ss s q lt h some so_far in
-    let two : selection_of o ∷ s ∷ chosen (listed (selections_at (count - (i + 1)) q)) ≡ one ∷ [] = g.1 ∙ leaves_one ss one so_far.each alone in
+    let two : selection_of o ∷ s ∷ chosen (listed (listed_at (count - (i + 1)) q)) ≡ one ∷ [] = g.1 ∙ leaves_one ss one so_far.each alone in
     cc
 
 seeks_all : (count i : ℕ) (p : Place) (found : Option BankSelection) (ss : List Selection) → count ≤ i → Seeks count i p found ss → kept found ++ [] ≡ chosen ss

@@ -1,65 +1,57 @@
 -- A mask is the number of the first three bytes, the lowest first.
-use Rattle.std.proofs.Common.{◌≡◌, ℕ, zero, suc, ◌+◌, ◌-◌, ◌*◌, ◌/◌, ◌%◌, ◌^◌, ◌<◌, ◌≤◌, true, false, cond, List, [], ◌∷◌, ◌++◌, length, get_or, take, drop, refl, sym, ap, subst, ◌∙◌, arith, inl, inr}
+use Rattle.std.proofs.Common.{◌≡◌, ℕ, zero, suc, ◌+◌, ◌-◌, ◌*◌, ◌/◌, ◌%◌, ◌^◌, ◌<◌, ◌≤◌, Bool, true, false, cond, eqb, List, [], ◌∷◌, ◌++◌, length, get_or, take, drop, refl, sym, ap, subst, ◌∙◌, arith, inl, inr}
 use Rattle.std.specs.Prelude.{sum_by}
 use Rattle.std.specs.List.{range_with_len}
 use Rattle.std.specs.Int.{w32, bit_at, to_le_bytes}
-use Rattle.std.proofs.lemmas.Bool.{cases_lt}
-use Rattle.std.proofs.lemmas.List.{get_or_past, get_or-drop}
+use Rattle.std.proofs.lemmas.Bool.{cases_eq, cases_lt}
+use Rattle.std.proofs.lemmas.Nat.{mod-pow-add, pow-add}
+use Rattle.std.proofs.lemmas.List.{get_or_past, get_or-drop, map-id}
+use Rattle.std.proofs.lemmas.List.FromFn.{sum_by-map-range_with_len_more}
 use Rattle.std.proofs.lemmas.List.Sums.{sum_by-append}
 use Rattle.std.proofs.lemmas.List.Elements.{All-nil}
-use Rattle.kl_attest.specs.Grammar.{IsBytes, Selection}
+use Rattle.kl_base.specs.Bytes.{IsBytes}
+use Rattle.kl_attest.specs.Grammar.{Selection}
 use Rattle.kl_attest.specs.Pcrs.{has_pcr, is_zero, mask_of, AreBelow24, IsEmptySelection, IsLone, OneSet}
-use Rattle.kl_attest.proofs.Bits.{bit_worth, byte_bits, zero_at, not_zero_at, none_in, pcr_of, zero_of}
+use Rattle.kl_attest.proofs.Bits.{has_pcr-at, zero_at, not_zero_at, none_in, pcr_of, zero_of}
 
 abbrev worth : List ℕ → ℕ → ℕ
 worth select n = cond (has_pcr select n) (2 ^ n) 0
 
-bit_lt : (b k : ℕ) → bit_at b k < 2
-bit_lt b k = omega arith
+sum_more : (f : ℕ → ℕ) (a n : ℕ) → sum_by f (range_with_len a (n + 1)) ≡ sum_by f (range_with_len a n) + f (a + n)
+sum_more f a n =
+    sym (ap (sum_by f) (map-id (range_with_len a (n + 1)))) ∙ sum_by-map-range_with_len_more f (λ x. x) a n (a + n) refl
+    ∙ ap (λ (xs : List ℕ). sum_by f xs + f (a + n)) (map-id (range_with_len a n))
 
--- eight bits at eight worths
-eight : (b a0 a1 a2 a3 a4 a5 a6 a7 x0 x1 x2 x3 x4 x5 x6 x7 s : ℕ)
-    → x0 * 1 + x1 * 2 + x2 * 4 + x3 * 8 + x4 * 16 + x5 * 32 + x6 * 64 + x7 * 128 ≡ b
-    → a0 ≡ x0 * 1 * s → a1 ≡ x1 * 2 * s → a2 ≡ x2 * 4 * s → a3 ≡ x3 * 8 * s → a4 ≡ x4 * 16 * s → a5 ≡ x5 * 32 * s → a6 ≡ x6 * 64 * s → a7 ≡ x7 * 128 * s
-    → 0 + a0 + a1 + a2 + a3 + a4 + a5 + a6 + a7 ≡ b * s
-eight b a0 a1 a2 a3 a4 a5 a6 a7 x0 x1 x2 x3 x4 x5 x6 x7 s e h0 h1 h2 h3 h4 h5 h6 h7 = rw (← e, h0, h1, h2, h3, h4, h5, h6, h7) (omega arith)
+bit_worth : (x w : ℕ) → x < 2 → cond (eqb x 1) w 0 ≡ x * w
+bit_worth x w lt =
+    elim (cases_eq x 1) [
+      | inl one ↦ rw one (omega arith)
+      | inr other ↦ let none : x ≡ 0 = omega arith in rw none (omega arith)
+    ]
 
-low_sum : (select : List ℕ) → get_or select 0 0 < 256 → sum_by (worth select) (range_with_len 0 8) ≡ get_or select 0 0 * 1
-low_sum select lt =
-    let b : ℕ = get_or select 0 0 in
-    eight b (worth select 0) (worth select 1) (worth select 2) (worth select 3) (worth select 4) (worth select 5) (worth select 6) (worth select 7)
-    (bit_at b 0) (bit_at b 1) (bit_at b 2) (bit_at b 3) (bit_at b 4) (bit_at b 5) (bit_at b 6) (bit_at b 7) 1 (byte_bits b lt)
-    (omega (arith, bit_worth (bit_at b 0) 1 (bit_lt b 0))) (omega (arith, bit_worth (bit_at b 1) 2 (bit_lt b 1))) (omega (arith, bit_worth (bit_at b 2) 4 (bit_lt b 2))) (omega (arith, bit_worth (bit_at b 3) 8 (bit_lt b 3)))
-    (omega (arith, bit_worth (bit_at b 4) 16 (bit_lt b 4))) (omega (arith, bit_worth (bit_at b 5) 32 (bit_lt b 5))) (omega (arith, bit_worth (bit_at b 6) 64 (bit_lt b 6))) (omega (arith, bit_worth (bit_at b 7) 128 (bit_lt b 7)))
-
-middle_sum : (select : List ℕ) → get_or select 1 0 < 256 → sum_by (worth select) (range_with_len 8 8) ≡ get_or select 1 0 * 256
-middle_sum select lt =
-    let b : ℕ = get_or select 1 0 in
-    eight b (worth select 8) (worth select 9) (worth select 10) (worth select 11) (worth select 12) (worth select 13) (worth select 14) (worth select 15)
-    (bit_at b 0) (bit_at b 1) (bit_at b 2) (bit_at b 3) (bit_at b 4) (bit_at b 5) (bit_at b 6) (bit_at b 7) 256 (byte_bits b lt)
-    (omega (arith, bit_worth (bit_at b 0) 256 (bit_lt b 0))) (omega (arith, bit_worth (bit_at b 1) 512 (bit_lt b 1))) (omega (arith, bit_worth (bit_at b 2) 1024 (bit_lt b 2))) (omega (arith, bit_worth (bit_at b 3) 2048 (bit_lt b 3)))
-    (omega (arith, bit_worth (bit_at b 4) 4096 (bit_lt b 4))) (omega (arith, bit_worth (bit_at b 5) 8192 (bit_lt b 5))) (omega (arith, bit_worth (bit_at b 6) 16384 (bit_lt b 6))) (omega (arith, bit_worth (bit_at b 7) 32768 (bit_lt b 7)))
-
-high_sum : (select : List ℕ) → get_or select 2 0 < 256 → sum_by (worth select) (range_with_len 16 8) ≡ get_or select 2 0 * 65536
-high_sum select lt =
-    let b : ℕ = get_or select 2 0 in
-    eight b (worth select 16) (worth select 17) (worth select 18) (worth select 19) (worth select 20) (worth select 21) (worth select 22) (worth select 23)
-    (bit_at b 0) (bit_at b 1) (bit_at b 2) (bit_at b 3) (bit_at b 4) (bit_at b 5) (bit_at b 6) (bit_at b 7) 65536 (byte_bits b lt)
-    (omega (arith, bit_worth (bit_at b 0) 65536 (bit_lt b 0))) (omega (arith, bit_worth (bit_at b 1) 131072 (bit_lt b 1))) (omega (arith, bit_worth (bit_at b 2) 262144 (bit_lt b 2))) (omega (arith, bit_worth (bit_at b 3) 524288 (bit_lt b 3)))
-    (omega (arith, bit_worth (bit_at b 4) 1048576 (bit_lt b 4))) (omega (arith, bit_worth (bit_at b 5) 2097152 (bit_lt b 5))) (omega (arith, bit_worth (bit_at b 6) 4194304 (bit_lt b 6))) (omega (arith, bit_worth (bit_at b 7) 8388608 (bit_lt b 7)))
+-- the PCRs of the lowest k bits of byte i
+bits_sum : (select : List ℕ) (i k : ℕ) → k ≤ 8 → sum_by (worth select) (range_with_len (i * 8) k) ≡ get_or select i 0 % 2 ^ k * 2 ^ (i * 8)
+bits_sum select i zero le =
+    let none : get_or select i 0 % 1 ≡ 0 = omega arith in
+    rw none (omega arith)
+bits_sum select i (suc k) le =
+    let b : ℕ = get_or select i 0 in
+    let bit : ℕ = bit_at b k in
+    let so_far = bits_sum select i k (omega arith) in
+    let here : worth select (i * 8 + k) ≡ bit * (2 ^ (i * 8) * 2 ^ k) =
+    ap (λ (has : Bool). cond has (2 ^ (i * 8 + k)) 0) (has_pcr-at select i k (omega arith)) ∙ bit_worth bit (2 ^ (i * 8 + k)) (omega arith) ∙ ap (λ (w : ℕ). bit * w) (pow-add 2 (i * 8) k) in
+    let one_more : k + 1 ≡ 1 + k = omega arith in
+    let bits : b % 2 ^ (k + 1) ≡ bit * 2 ^ k + b % 2 ^ k = ap (λ (e : ℕ). b % 2 ^ e) one_more ∙ mod-pow-add b 1 k in
+    let next : k + 1 ≡ suc k = omega arith in
+    subst (λ (m : ℕ). sum_by (worth select) (range_with_len (i * 8) m) ≡ b % 2 ^ m * 2 ^ (i * 8)) next (sum_more (worth select) (i * 8) k ∙ rw (so_far, here, bits) (omega arith))
 
 three_parts : (f : ℕ → ℕ) → sum_by f (range_with_len 0 24) ≡ sum_by f (range_with_len 0 8) + (sum_by f (range_with_len 8 8) + sum_by f (range_with_len 16 8))
 three_parts f = sum_by-append f (range_with_len 0 8) (range_with_len 8 8 ++ range_with_len 16 8) ∙ ap (λ (k : ℕ). sum_by f (range_with_len 0 8) + k) (sum_by-append f (range_with_len 8 8) (range_with_len 16 8))
 
-added : (s a b c x y z : ℕ) → s ≡ a + (b + c) → a ≡ x * 1 → b ≡ y * 256 → c ≡ z * 65536 → s ≡ x + y * 256 + z * 65536
-added s a b c x y z e p q r = omega arith
-
 -- the mask is the number that the first three bytes make
 pub mask_is : (select : List ℕ) → IsBytes select → mask_of select ≡ get_or select 0 0 + get_or select 1 0 * 256 + get_or select 2 0 * 65536
 unfolding mask_of
-mask_is select fits =
-    added (sum_by (worth select) (range_with_len 0 24)) (sum_by (worth select) (range_with_len 0 8)) (sum_by (worth select) (range_with_len 8 8)) (sum_by (worth select) (range_with_len 16 8))
-    (get_or select 0 0) (get_or select 1 0) (get_or select 2 0) (three_parts (worth select)) (low_sum select (fits 0)) (middle_sum select (fits 1)) (high_sum select (fits 2))
+mask_is select fits = omega (arith, three_parts (worth select), bits_sum select 0 8 (omega arith), bits_sum select 1 8 (omega arith), bits_sum select 2 8 (omega arith), fits 0, fits 1, fits 2)
 
 -- ---- PCRs from 24 on
 

@@ -1,9 +1,12 @@
--- A quote's TPMS_ATTEST, as what its fields are and the one text that they have (TPM 2.0 Library, Part 2: TPMS_ATTEST and
--- TPMS_QUOTE_INFO in section 10.12, TPMS_CLOCK_INFO in 10.11, TPML_PCR_SELECTION in 10.9, TPMS_PCR_SELECTION in 10.6).
--- Every number stands with its highest byte first.
-use Rattle.std.specs.Prelude.{◌≡◌, ℕ, ◌<◌, ◌^◌, Bool, List, [], ◌∷◌, ◌++◌, length, slice_index, if◌then◌else◌}
+-- A quote's TPMS_ATTEST, as the fields that it has, in their order, and the one text that they make (TPM 2.0 Library, Part 2:
+-- TPMS_ATTEST and TPMS_QUOTE_INFO in section 10.12, TPMS_CLOCK_INFO in 10.11, TPML_PCR_SELECTION in 10.9, TPMS_PCR_SELECTION in
+-- 10.6). Every number stands with its highest byte first.
+use Rattle.std.specs.Prelude.{◌≡◌, ℕ, ◌<◌, ◌^◌, Bool, List, [], ◌∷◌, ◌++◌, length, if◌then◌else◌}
 use Rattle.std.specs.List.{flat_map, AllByRecursion}
-use Rattle.std.specs.Int.{w8, w16, w32, w64, to_be_bytes}
+use Rattle.std.specs.Int.{Width, w8, w16, w32, w64, to_be_bytes}
+use Rattle.kl_base.specs.Bytes.{IsBytes}
+use Rattle.kl_attest.specs.declared.fault.AttestFault.{AttestFault}
+use Rattle.kl_attest.specs.declared.fault.AttestFault.TheVariants.{Magic, AttestType}
 
 -- the PCRs chosen in the bank of one hash algorithm
 pub record Selection : Type 0 where
@@ -22,6 +25,20 @@ pub record Quoted : Type 0 where
   pub selections : List Selection
   pub pcr_digest : List ℕ
 
+-- a quote by its fields, in their order
+abbrev pub quoted : List ℕ → List ℕ → ℕ → ℕ → ℕ → Bool → ℕ → List Selection → List ℕ → Quoted
+quoted signer extra clock reset restart safe firmware selections pcr_digest = record {
+  signer = signer;
+  extra = extra;
+  clock = clock;
+  reset = reset;
+  restart = restart;
+  safe = safe;
+  firmware = firmware;
+  selections = selections;
+  pcr_digest = pcr_digest;
+}
+
 -- TPM_GENERATED_VALUE, the bytes FF "TCG", and TPM_ST_ATTEST_QUOTE
 abbrev pub magic : ℕ
 magic = 0xFF544347
@@ -29,32 +46,60 @@ magic = 0xFF544347
 abbrev pub attest_quote : ℕ
 attest_quote = 0x8018
 
--- two bytes of length, and that many bytes
-abbrev pub sized : List ℕ → List ℕ
-sized bytes = to_be_bytes w16 (length bytes) ++ bytes
+-- ---- The fields
 
--- the algorithm, one byte of length, and that many bytes
-abbrev pub selection_text : Selection → List ℕ
-selection_text s = to_be_bytes w16 s.alg ++ (to_be_bytes w8 (length s.select) ++ s.select)
+-- A field: any bytes, or these alone (where others stand, that is this fault), or the byte 1 or 0 for yes or no.
+pub data Field : Type 0 where
+  Free : List ℕ → Field
+  Fixed : AttestFault → List ℕ → Field
+  YesNo : Bool → Field
+
+abbrev pub field_text : Field → List ℕ
+field_text (Free bytes) = bytes
+field_text (Fixed fault bytes) = bytes
+field_text (YesNo b) = (if b then 1 else 0) ∷ []
+
+abbrev pub joined : List Field → List ℕ
+joined fields = flat_map field_text fields
+
+-- any number of this width
+abbrev pub number : Width → ℕ → Field
+number w n = Free (to_be_bytes w n)
+
+-- a length of this width, and the bytes that it counts
+abbrev pub counted : Width → List ℕ → List Field
+counted w bytes = number w (length bytes) ∷ Free bytes ∷ []
+
+-- TPMS_CLOCK_INFO: the clock, the two counters, and whether it is safe
+abbrev pub clock_fields : ℕ → ℕ → ℕ → Bool → List Field
+clock_fields clock reset restart safe = number w64 clock ∷ number w32 reset ∷ number w32 restart ∷ YesNo safe ∷ []
+
+-- TPMS_PCR_SELECTION: the algorithm, and the bits of the PCRs
+abbrev pub selection_fields : Selection → List Field
+selection_fields s = number w16 s.alg ∷ counted w8 s.select
 
 -- TPML_PCR_SELECTION: how many there are, and each
-abbrev pub selections_text : List Selection → List ℕ
-selections_text ss = to_be_bytes w32 (length ss) ++ flat_map selection_text ss
+abbrev pub selections_fields : List Selection → List Field
+selections_fields ss = number w32 (length ss) ∷ flat_map selection_fields ss
 
--- TPMS_CLOCK_INFO: the clock, the two counters, and 1 or 0 for safe
-abbrev pub clock_text : ℕ → ℕ → ℕ → Bool → List ℕ
-clock_text clock reset restart safe = to_be_bytes w64 clock ++ (to_be_bytes w32 reset ++ (to_be_bytes w32 restart ++ (if safe then 1 else 0) ∷ []))
+-- what all quotes begin with
+abbrev pub header_fields : List Field
+header_fields = Fixed Magic (to_be_bytes w32 magic) ∷ Fixed AttestType (to_be_bytes w16 attest_quote) ∷ []
 
 -- TPMS_ATTEST of a quote
-unfoldable pub text_of : Quoted → List ℕ
-text_of q =
-    to_be_bytes w32 magic ++ (to_be_bytes w16 attest_quote ++ (sized q.signer ++ (sized q.extra ++ (
-    clock_text q.clock q.reset q.restart q.safe ++ (to_be_bytes w64 q.firmware ++ (
-    selections_text q.selections ++ sized q.pcr_digest))))))
+abbrev pub fields_of : Quoted → List Field
+fields_of q =
+    header_fields
+    ++ counted w16 q.signer ++ counted w16 q.extra
+    ++ clock_fields q.clock q.reset q.restart q.safe
+    ++ number w64 q.firmware
+    ∷ selections_fields q.selections
+    ++ counted w16 q.pcr_digest
 
--- each is a byte
-abbrev pub IsBytes : List ℕ → Type 0
-IsBytes bytes = (i : ℕ) → slice_index bytes i < 256
+unfoldable pub text_of : Quoted → List ℕ
+text_of q = joined (fields_of q)
+
+-- ---- What fits them
 
 -- bytes, of which there are fewer than this limit
 pub record IsSized (limit : ℕ) (bytes : List ℕ) : Type 0 where

@@ -1,7 +1,5 @@
 pub mod Grammar
 pub mod Pcrs
 pub mod FirstFault
-pub mod Faults
-pub mod Cursors
-pub mod Readers
 pub mod Views
+pub mod Inner

@@ -36,11 +36,10 @@ pub struct BankSelection<'a> {
 }
 
 impl<'a> Cursor<'a> {
-    ghost use Rattle.std.specs.Prelude.{List, IfOk};
+    ghost use Rattle.std.specs.Prelude.{List};
     ghost use Rattle.std.specs.Int.{w8, w16, w32, w64};
-    ghost use Rattle.kl_attest.specs.Faults.{Gives, start, bytes_at, number_at, sized_at, header_at, flag_at, clock_at, selection_at};
-    ghost use Rattle.kl_attest.specs.Cursors.{place_of};
-    ghost use Rattle.kl_attest.specs.Readers.{clock_of, selection_of};
+    ghost use Rattle.kl_attest.specs.Inner.Reading.{Gives, start, bytes_at, number_at, counted_at, header_at, flag_at, clock_at, selection_at};
+    ghost use Rattle.kl_attest.specs.Inner.Seen.{place_of, passed, clock_of, selection_of};
 
     pub fn new(bytes: &'a [u8]) -> Cursor<'a>
         ensures { place_of result ≡ start bytes.now }
@@ -48,7 +47,7 @@ impl<'a> Cursor<'a> {
         Cursor { at: 0, rest: bytes }
     }
 
-    #[tactic(auto, unfolding(crate::specs::Faults::bytes_at))]
+    #[tactic(auto, unfolding(crate::specs::Inner::Reading::bytes_at))]
     pub fn read_bytes(self, count: usize) -> Result<(&'a [u8], Cursor<'a>), AttestFault>
         ensures { Gives (λ x. (x.0.now, place_of x.1)) result (bytes_at count (place_of self.entry)) }
     {
@@ -60,7 +59,7 @@ impl<'a> Cursor<'a> {
         Ok((field, Cursor { at, rest }))
     }
 
-    #[tactic(auto, unfolding(crate::specs::Faults::bytes_at, crate::specs::Faults::number_at))]
+    #[tactic(auto, unfolding(crate::specs::Inner::Reading::bytes_at, crate::specs::Inner::Reading::number_at))]
     pub fn read_u8(self) -> Result<(u8, Cursor<'a>), AttestFault>
         ensures { Gives (λ x. (x.0, place_of x.1)) result (number_at w8 (place_of self.entry)) }
     {
@@ -68,7 +67,7 @@ impl<'a> Cursor<'a> {
         Ok((field[0], after))
     }
 
-    #[tactic(auto, unfolding(crate::specs::Faults::bytes_at, crate::specs::Faults::number_at))]
+    #[tactic(auto, unfolding(crate::specs::Inner::Reading::bytes_at, crate::specs::Inner::Reading::number_at))]
     pub fn read_u16(self) -> Result<(u16, Cursor<'a>), AttestFault>
         ensures { Gives (λ x. (x.0, place_of x.1)) result (number_at w16 (place_of self.entry)) }
     {
@@ -76,7 +75,7 @@ impl<'a> Cursor<'a> {
         Ok((u16::from_be_bytes([field[0], field[1]]), after))
     }
 
-    #[tactic(auto, unfolding(crate::specs::Faults::bytes_at, crate::specs::Faults::number_at))]
+    #[tactic(auto, unfolding(crate::specs::Inner::Reading::bytes_at, crate::specs::Inner::Reading::number_at))]
     pub fn read_u32(self) -> Result<(u32, Cursor<'a>), AttestFault>
         ensures { Gives (λ x. (x.0, place_of x.1)) result (number_at w32 (place_of self.entry)) }
     {
@@ -85,7 +84,7 @@ impl<'a> Cursor<'a> {
         Ok((number, after))
     }
 
-    #[tactic(auto, unfolding(crate::specs::Faults::bytes_at, crate::specs::Faults::number_at))]
+    #[tactic(auto, unfolding(crate::specs::Inner::Reading::bytes_at, crate::specs::Inner::Reading::number_at))]
     pub fn read_u64(self) -> Result<(u64, Cursor<'a>), AttestFault>
         ensures { Gives (λ x. (x.0, place_of x.1)) result (number_at w64 (place_of self.entry)) }
     {
@@ -97,9 +96,9 @@ impl<'a> Cursor<'a> {
     }
 
     /// The first two fields of every quote.
-    #[tactic(auto, unfolding(crate::specs::Faults::constant_at, crate::specs::Faults::header_at))]
+    #[tactic(auto, unfolding(crate::specs::Inner::Reading::known_at, crate::specs::Inner::Reading::header_at))]
     pub fn read_header(self) -> Result<Cursor<'a>, AttestFault>
-        ensures { Gives place_of result (header_at (place_of self.entry)) }
+        ensures { Gives passed result (header_at (place_of self.entry)) }
     {
         let (magic, after) = self.read_u32()?;
         if magic != MAGIC {
@@ -113,16 +112,16 @@ impl<'a> Cursor<'a> {
     }
 
     /// A size of two bytes, and that many bytes (TPM2B).
-    #[tactic(auto, unfolding(crate::specs::Faults::sized_at))]
+    #[tactic(auto, unfolding(crate::specs::Inner::Reading::counted_at))]
     pub fn read_sized(self) -> Result<(&'a [u8], Cursor<'a>), AttestFault>
-        ensures { Gives (λ x. (x.0.now, place_of x.1)) result (sized_at (place_of self.entry)) }
+        ensures { Gives (λ x. (x.0.now, place_of x.1)) result (counted_at w16 (place_of self.entry)) }
     {
         let (size, after) = self.read_u16()?;
         after.read_bytes(usize::from(size))
     }
 
     /// A flag (TPMI_YES_NO).
-    #[tactic(auto, unfolding(crate::specs::Faults::flag_at))]
+    #[tactic(auto, unfolding(crate::specs::Inner::Reading::known_at, crate::specs::Inner::Reading::flag_at))]
     pub fn read_safe(self) -> Result<(bool, Cursor<'a>), AttestFault>
         ensures { Gives (λ x. (x.0, place_of x.1)) result (flag_at (place_of self.entry)) }
     {
@@ -134,7 +133,7 @@ impl<'a> Cursor<'a> {
         }
     }
 
-    #[tactic(auto, unfolding(crate::specs::Faults::clock_at))]
+    #[tactic(auto, unfolding(crate::specs::Inner::Reading::clock_at))]
     pub fn read_clock(self) -> Result<(ClockInfo, Cursor<'a>), AttestFault>
         ensures { Gives (λ x. (clock_of x.0, place_of x.1)) result (clock_at (place_of self.entry)) }
     {
@@ -151,7 +150,7 @@ impl<'a> Cursor<'a> {
         Ok((info, after))
     }
 
-    #[tactic(auto, unfolding(crate::specs::Faults::selection_at))]
+    #[tactic(auto, unfolding(crate::specs::Inner::Reading::counted_at, crate::specs::Inner::Reading::selection_at))]
     pub fn read_selection(self) -> Result<(BankSelection<'a>, Cursor<'a>), AttestFault>
         ensures { Gives (λ x. (selection_of x.0, place_of x.1)) result (selection_at (place_of self.entry)) }
     {

@@ -1,6 +1,4 @@
-//! Why a quote could not be read or written.
-
-use std::alloc::{AllocError, AllocFailed};
+//! Why a quote could not be read.
 
 /// What is wrong with the bytes: the first fault from left to right.
 #[derive(Clone, Copy, Debug, PartialEq, Eq)]
@@ -16,20 +14,4 @@ pub enum AttestFault {
     Safe,
     /// Bytes stand behind the structure, which ends at this byte.
     Tail(usize),
-}
-
-/// Memory ran out.
-#[derive(Debug, Drop)]
-pub struct Memory;
-
-impl From<AllocError> for Memory {
-    fn from(_error: AllocError) -> Memory {
-        Memory
-    }
-}
-
-impl<T: Drop> From<AllocFailed<T>> for Memory {
-    fn from(_failed: AllocFailed<T>) -> Memory {
-        Memory
-    }
 }

@@ -10,7 +10,8 @@ mod selections;
 mod writing;
 
 pub use attest::{Attest, AttestParts};
-pub use fault::{AttestFault, Memory};
+pub use fault::AttestFault;
+pub use kl_base::Memory;
 pub use reading::read_attest;
 pub use selections::Selections;
 pub use writing::write_attest;

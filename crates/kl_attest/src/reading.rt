@@ -3,8 +3,8 @@
 ghost use Rattle.std.specs.Prelude.{◌≡◌, Err, IfOk, IfErr, IsOkAnd};
 ghost use Rattle.kl_attest.specs.Grammar.{Quoted, Spells};
 ghost use Rattle.kl_attest.specs.FirstFault.{IsFirstFault};
-ghost use Rattle.kl_attest.specs.Faults.{Gives, quoted_at, all_of};
-ghost use Rattle.kl_attest.specs.Cursors.{place_of};
+ghost use Rattle.kl_attest.specs.Inner.Reading.{Gives, quoted_at, all_of};
+ghost use Rattle.kl_attest.specs.Inner.Seen.{place_of};
 ghost use Rattle.kl_attest.specs.Views.{view};
 
 use crate::attest::Attest;
@@ -28,7 +28,7 @@ pub fn read_attest(bytes: &[u8]) -> Result<Attest<'_>, AttestFault>
     read_whole(bytes)
 }
 
-#[tactic(auto, unfolding(crate::specs::Faults::all_of))]
+#[tactic(auto, unfolding(crate::specs::Inner::Reading::all_of))]
 fn read_whole(bytes: &[u8]) -> Result<Attest<'_>, AttestFault>
     ensures { Gives view result (all_of bytes.now) }
 {
@@ -39,7 +39,7 @@ fn read_whole(bytes: &[u8]) -> Result<Attest<'_>, AttestFault>
     Ok(attest)
 }
 
-#[tactic(auto, unfolding(crate::specs::Faults::quoted_at))]
+#[tactic(auto, unfolding(crate::specs::Inner::Reading::quoted_at))]
 fn read_fields<'a>(cursor: Cursor<'a>) -> Result<(Attest<'a>, Cursor<'a>), AttestFault>
     ensures { Gives (λ x. (view x.0, place_of x.1)) result (quoted_at (place_of cursor.entry)) }
 {

@@ -1,11 +1,11 @@
 //! The PCRs that a quote covers.
 
-ghost use Rattle.std.specs.Prelude.{◌≡◌, ◌≤◌, ◌↔◌, ℕ, IsTrue, IfSome, IfNone, length, slice_index, drop};
-ghost use Rattle.kl_attest.specs.Grammar.{Selection, IsBytes};
+ghost use Rattle.std.specs.Prelude.{◌≡◌, ◌≤◌, ◌↔◌, ℕ, IsTrue, IfSome, IfNone, SomeIff, length, slice_index, drop};
+ghost use Rattle.kl_base.specs.Bytes.{IsBytes};
+ghost use Rattle.kl_attest.specs.Grammar.{Selection};
 ghost use Rattle.kl_attest.specs.Pcrs.{IsLone, OneSet, AreBelow24, has_pcr, is_zero, mask_of};
-ghost use Rattle.kl_attest.specs.Faults.{Gives, selections_at, counted_at, behind};
-ghost use Rattle.kl_attest.specs.Cursors.{place_of};
-ghost use Rattle.kl_attest.specs.Readers.{selection_of};
+ghost use Rattle.kl_attest.specs.Inner.Reading.{Gives, listed_at, selections_at, behind};
+ghost use Rattle.kl_attest.specs.Inner.Seen.{place_of, selection_of};
 
 use crate::cursor::{BankSelection, Cursor};
 use crate::fault::AttestFault;
@@ -21,14 +21,14 @@ pub struct Selections<'a> {
 impl<'a> Model for Selections<'a> {
     ghost use Rattle.std.specs.Prelude.{List, IsOk};
     ghost use Rattle.kl_attest.specs.Grammar.{Selection};
-    ghost use Rattle.kl_attest.specs.Faults.{selections_at, listed};
-    ghost use Rattle.kl_attest.specs.Cursors.{place_of};
+    ghost use Rattle.kl_attest.specs.Inner.Reading.{listed_at, listed};
+    ghost use Rattle.kl_attest.specs.Inner.Seen.{place_of};
 
     ghost Value = { List Selection };
 
-    ghost view = { λ s. listed (selections_at s.count (place_of s.first)) };
+    ghost view = { λ s. listed (listed_at s.count (place_of s.first)) };
 
-    ghost invariant = { λ s. IsOk (selections_at s.count (place_of s.first)) };
+    ghost invariant = { λ s. IsOk (listed_at s.count (place_of s.first)) };
 }
 
 impl<'a> Selections<'a> {
@@ -77,9 +77,9 @@ impl<'a> Selections<'a> {
 }
 
 /// A count, and that many selections.
-#[tactic(auto, unfolding(crate::specs::Faults::counted_at))]
+#[tactic(auto, unfolding(crate::specs::Inner::Reading::selections_at))]
 pub fn read_selections<'a>(cursor: Cursor<'a>) -> Result<(Selections<'a>, Cursor<'a>), AttestFault>
-    ensures { Gives (λ x. (x.0, place_of x.1)) result (counted_at (place_of cursor.entry)) }
+    ensures { Gives (λ x. (x.0, place_of x.1)) result (selections_at (place_of cursor.entry)) }
 {
     let (count, first) = cursor.read_u32()?;
     let after = pass_selections(count, first)?;
@@ -88,7 +88,7 @@ pub fn read_selections<'a>(cursor: Cursor<'a>) -> Result<(Selections<'a>, Cursor
 
 // The cursor behind so many selections.
 fn pass_selections<'a>(count: u32, first: Cursor<'a>) -> Result<Cursor<'a>, AttestFault>
-    ensures { Gives place_of result (behind (selections_at count (place_of first.entry))) }
+    ensures { Gives place_of result (behind (listed_at count (place_of first.entry))) }
 {
     let mut rest = first;
     for _ in 0..count {
@@ -118,16 +118,32 @@ fn byte_or_zero(bytes: &[u8], place: usize) -> u8
 }
 
 // The PCRs as the sum of 2^n for each PCR n, where none is above 23.
+#[tactic(auto, using(crate::proofs::Masks::above, crate::proofs::Masks::below_zero))]
 fn mask(select: &[u8]) -> Option<u32>
     ensures below { IfSome result (λ mask. AreBelow24 select.now) }
     ensures mask { IfSome result (λ mask. mask ≡ mask_of select.now) }
     ensures none { IfNone result (¬ (AreBelow24 select.now)) }
 {
-    if select.len() > 3 && !all_zero(&select[3..]) {
+    hold_bytes(select);
+    if !is_high_zero(select) {
         return None;
     }
+    Some(low_number(select))
+}
+
+// Whether the bytes behind the third, those of the PCRs from 24 on, are 0.
+fn is_high_zero(select: &[u8]) -> bool
+    ensures { result ≡ is_zero (drop 3 select.now) }
+{
+    select.iter().skip(3).all(|byte| *byte == 0)
+}
+
+// The number that the first three bytes make, the lowest first.
+fn low_number(select: &[u8]) -> u32
+    ensures { result ≡ mask_of select.now }
+{
     let low = byte_or_zero(select, 0);
     let middle = byte_or_zero(select, 1);
     let high = byte_or_zero(select, 2);
-    Some(u32::from_le_bytes([low, middle, high, 0]))
+    u32::from_le_bytes([low, middle, high, 0])
 }

@@ -17,22 +17,53 @@ const QUOTE: [u8; 145] = [
     0xdf,
 ];
 
-// Where each field of it begins.
-const PLACES: [usize; 17] = [
-    0, 4, 6, 8, 42, 44, 76, 84, 88, 92, 93, 101, 105, 107, 108, 111, 113,
-];
-
-fn fault_of(bytes: &[u8]) -> Option<AttestFault> {
-    read_attest(bytes).err()
-}
-
-// The quote with another byte at a place.
-fn changed(alloc: Global, place: usize, byte: u8) -> Result<Vec<u8>, AllocError> {
+// The front of the quote and a byte 0 behind it, with another byte at a place.
+fn changed(alloc: Global, len: usize, place: usize, byte: u8) -> Result<Vec<u8>, AllocError> {
     let mut bytes = Vec::from_slice(alloc, &QUOTE)?;
+    bytes.push(0)?;
+    bytes.truncate(len);
     if let Some(old) = bytes.get_mut(place) {
         *old = byte;
     }
     Ok(bytes)
+}
+
+#[test]
+fn faults_name_the_first_field_that_does_not_fit(rt: HostRuntime) -> Result<(), Fail> {
+    let cases = [
+        (0, 0, 0, Some(AttestFault::Short(0))),
+        (3, 0, 0, Some(AttestFault::Short(0))),
+        // Magic is tested before the type is looked for.
+        (4, 0, 0xFE, Some(AttestFault::Magic)),
+        (4, 3, 0x47, Some(AttestFault::Short(4))),
+        (5, 4, 0x80, Some(AttestFault::Short(4))),
+        (6, 5, 0x17, Some(AttestFault::AttestType)),
+        (6, 5, 0x18, Some(AttestFault::Short(6))),
+        (8, 7, 0x22, Some(AttestFault::Short(8))),
+        (41, 8, 0, Some(AttestFault::Short(8))),
+        (42, 8, 0, Some(AttestFault::Short(42))),
+        (44, 8, 0, Some(AttestFault::Short(44))),
+        (75, 8, 0, Some(AttestFault::Short(44))),
+        (83, 8, 0, Some(AttestFault::Short(76))),
+        (87, 8, 0, Some(AttestFault::Short(84))),
+        (91, 8, 0, Some(AttestFault::Short(88))),
+        (92, 8, 0, Some(AttestFault::Short(92))),
+        (93, 92, 2, Some(AttestFault::Safe)),
+        (93, 92, 0, Some(AttestFault::Short(93))),
+        (104, 8, 0, Some(AttestFault::Short(101))),
+        (106, 8, 0, Some(AttestFault::Short(105))),
+        (107, 8, 0, Some(AttestFault::Short(107))),
+        (110, 8, 0, Some(AttestFault::Short(108))),
+        (111, 8, 0, Some(AttestFault::Short(111))),
+        (144, 8, 0, Some(AttestFault::Short(113))),
+        (145, 8, 0, None),
+        (146, 8, 0, Some(AttestFault::Tail(145))),
+    ];
+    for (len, place, byte, want) in cases {
+        let bytes = changed(rt.alloc(), len, place, byte)?;
+        assert_eq!(rt; read_attest(&bytes).err(), want, "{len} {place}");
+    }
+    Ok(())
 }
 
 // The quote with other selections.
@@ -43,84 +74,21 @@ fn selecting(alloc: Global, selections: &[u8]) -> Result<Vec<u8>, AllocError> {
     Ok(bytes)
 }
 
-#[test]
-fn a_quote_is_read_and_written(rt: HostRuntime) -> Result<(), Fail> {
-    let Ok(attest) = read_attest(&QUOTE) else {
-        return Err("the bytes are a quote")?;
-    };
-    assert_eq!(rt; attest.signer, &QUOTE[8..42]);
-    assert_eq!(rt;
-        attest.extra,
-        b"abcdefghijklmnopqrstuvwxyzABCDEF".as_slice()
-    );
-    assert_eq!(rt; attest.clock, 0x0102_0304_0506_0708);
-    assert_eq!(rt; attest.reset, 0x1112_1314);
-    assert_eq!(rt; attest.restart, 0x2122_2324);
-    assert_eq!(rt; attest.safe, true);
-    assert_eq!(rt; attest.firmware, 0x3132_3334_3536_3738);
-    assert_eq!(rt; attest.selections.len(), 1);
-    assert_eq!(rt; attest.selections.one_set(), Some((0x000B, 0x10400)));
-    assert_eq!(rt; attest.pcr_digest, &QUOTE[113..]);
-    let parts = AttestParts {
-        signer: &QUOTE[8..42],
-        extra: b"abcdefghijklmnopqrstuvwxyzABCDEF".as_slice(),
-        clock: 0x0102_0304_0506_0708,
-        reset: 0x1112_1314,
-        restart: 0x2122_2324,
-        safe: true,
-        firmware: 0x3132_3334_3536_3738,
-        alg: 0x000B,
-        mask: 0x10400,
-        pcr_digest: &QUOTE[113..],
-    };
-    let written = write_attest(rt.alloc(), &parts)
-        .ok()
-        .ok_or("memory is left")?;
-    assert_eq!(rt; written.as_slice(), QUOTE.as_slice());
-    Ok(())
-}
-
-#[test]
-fn a_quote_that_is_cut_is_short_where_a_field_begins(rt: HostRuntime) {
-    for len in 0..QUOTE.len() {
-        let mut place = 0;
-        for start in PLACES {
-            if start <= len {
-                place = start;
-            }
-        }
-        assert_eq!(rt;
-            fault_of(&QUOTE[..len]),
-            Some(AttestFault::Short(place)),
-            "at {len}"
-        );
+fn set_of(bytes: &[u8]) -> Option<(u16, u32)> {
+    match read_attest(bytes) {
+        Ok(attest) => attest.selections.one_set(),
+        Err(_) => None,
     }
-}
-
-#[test]
-fn faults_are_told_apart(rt: HostRuntime) -> Result<(), Fail> {
-    let alloc = rt.alloc();
-    let kind = changed(alloc, 5, 0x17)?;
-    assert_eq!(rt; fault_of(&kind), Some(AttestFault::AttestType));
-    let mut both = changed(alloc, 5, 0x17)?;
-    if let Some(byte) = both.get_mut(0) {
-        *byte = 0xFE;
-    }
-    assert_eq!(rt; fault_of(&both), Some(AttestFault::Magic));
-    assert_eq!(rt; fault_of(&changed(alloc, 92, 2)?), Some(AttestFault::Safe));
-    let mut longer = Vec::from_slice(alloc, &QUOTE)?;
-    longer.push(0)?;
-    assert_eq!(rt; fault_of(&longer), Some(AttestFault::Tail(145)));
-    Ok(())
 }
 
 #[test]
 fn one_set_wants_one_selection_below_24(rt: HostRuntime) -> Result<(), Fail> {
-    let cases: [(&[u8], Option<(u16, u32)>); 6] = [
+    let cases: [(&[u8], Option<(u16, u32)>); 7] = [
         (&[0, 0, 0, 1, 0, 11, 3, 0, 4, 1], Some((11, 0x10400))),
         (&[0, 0, 0, 1, 0, 11, 4, 0, 4, 1, 0], Some((11, 0x10400))),
-        // PCR 24
+        // PCR 24, and PCRs 24 to 31
         (&[0, 0, 0, 1, 0, 11, 4, 0, 4, 0, 1], None),
+        (&[0, 0, 0, 1, 0, 11, 4, 0, 4, 1, 0xFF], None),
         // two banks
         (&[0, 0, 0, 2, 0, 11, 3, 0, 4, 1, 0, 4, 1, 1], None),
         // an empty selection of another bank
@@ -132,11 +100,67 @@ fn one_set_wants_one_selection_below_24(rt: HostRuntime) -> Result<(), Fail> {
     ];
     for (selections, want) in cases {
         let bytes = selecting(rt.alloc(), selections)?;
-        let set = match read_attest(&bytes) {
-            Ok(attest) => attest.selections.one_set(),
-            Err(_) => return Err("the bytes are a quote")?,
+        assert_eq!(rt; set_of(&bytes), want, "{selections:?}");
+    }
+    Ok(())
+}
+
+fn reads_as(bytes: &[u8], parts: &AttestParts<'_>) -> bool {
+    let set = (parts.mask != 0).then_some((parts.alg, parts.mask));
+    match read_attest(bytes) {
+        Ok(attest) => {
+            attest.signer == parts.signer
+                && attest.extra == parts.extra
+                && attest.clock == parts.clock
+                && attest.reset == parts.reset
+                && attest.restart == parts.restart
+                && attest.safe == parts.safe
+                && attest.firmware == parts.firmware
+                && attest.selections.len() == 1
+                && attest.selections.one_set() == set
+                && attest.pcr_digest == parts.pcr_digest
+        }
+        Err(_) => false,
+    }
+}
+
+fn write(alloc: Global, parts: &AttestParts<'_>) -> Option<Vec<u8>> {
+    let largest = parts
+        .signer
+        .len()
+        .max(parts.extra.len())
+        .max(parts.pcr_digest.len());
+    if largest > 65_535 || parts.mask >= 1 << 24 {
+        return None;
+    }
+    write_attest(alloc, parts).ok()
+}
+
+#[test]
+fn quotes_are_written_and_read(rt: HostRuntime) -> Result<(), Fail> {
+    let long = vec![in rt.alloc(); 7; 65_535]?;
+    let (signer, extra, digest) = (&QUOTE[8..42], &QUOTE[44..76], &QUOTE[113..]);
+    let cases: [(&[u8], &[u8], &[u8], u32, usize, &[u8]); 3] = [
+        (signer, extra, digest, 0x10400, 145, &QUOTE),
+        (&[], &[], &[], 0, 47, &QUOTE[..6]),
+        (&long, &long, &long, 0xFF_FFFF, 196_652, &QUOTE[..6]),
+    ];
+    for (signer, extra, pcr_digest, mask, len, front) in cases {
+        let parts = AttestParts {
+            signer,
+            extra,
+            clock: 0x0102_0304_0506_0708,
+            reset: 0x1112_1314,
+            restart: 0x2122_2324,
+            safe: true,
+            firmware: 0x3132_3334_3536_3738,
+            alg: 0x000B,
+            mask,
+            pcr_digest,
         };
-        assert_eq!(rt; set, want, "{selections:?}");
+        let written = write(rt.alloc(), &parts).ok_or("memory is left")?;
+        let same = written.len() == len && written.starts_with(front) && reads_as(&written, &parts);
+        assert!(rt; same, "{len}");
     }
     Ok(())
 }

@@ -1,14 +1,14 @@
 //! Writing a quote.
 
-ghost use Rattle.std.specs.Prelude.{◌≡◌, ◌≤◌, ◌<◌, ◌^◌, ◌++◌, ℕ, length, take, OnOk, IfOk, if◌then◌else◌};
-ghost use Rattle.std.specs.Int.{w8, w16, w32, w64, to_be_bytes, to_le_bytes};
-ghost use Rattle.kl_attest.specs.Grammar.{magic, attest_quote, sized, clock_text, IsSized, Spells};
+ghost use Rattle.std.specs.Prelude.{◌≡◌, ◌≤◌, ◌<◌, ◌^◌, ◌++◌, ℕ, length, OnOk, IfOk, if◌then◌else◌};
+ghost use Rattle.std.specs.Int.{w16};
+ghost use Rattle.kl_attest.specs.Grammar.{joined, counted, header_fields, clock_fields, selections_fields, IsSized, Spells};
 ghost use Rattle.kl_attest.specs.Pcrs.{OneSet};
-ghost use Rattle.kl_attest.specs.Views.{quoted_of};
+ghost use Rattle.kl_attest.specs.Views.{quoted_of, selections_of};
 
 use crate::attest::AttestParts;
 use crate::cursor::{ATTEST_QUOTE, MAGIC};
-use crate::fault::Memory;
+use kl_base::Memory;
 use std::alloc::{AllocError, Global};
 
 /// Writes the quote that has these parts, with one selection of three bytes.
@@ -34,7 +34,7 @@ pub fn write_attest(alloc: Global, parts: &AttestParts<'_>) -> Result<Vec<u8>, M
 
 fn put_sized(out: &mut Vec<u8>, bytes: &[u8]) -> Result<(), AllocError>
     requires { length bytes.now ≤ 65535 }
-    ensures text { OnOk result (out.new.items ≡ out.old.items ++ sized bytes.now) }
+    ensures text { OnOk result (out.new.items ≡ out.old.items ++ joined (counted w16 bytes.now)) }
     ensures fits { OnOk result (IsSized (2 ^ 16) bytes.now) }
 {
     out.extend_from_slice(&(bytes.len() as u16).to_be_bytes())?;
@@ -45,7 +45,7 @@ fn put_sized(out: &mut Vec<u8>, bytes: &[u8]) -> Result<(), AllocError>
 fn put_head(out: &mut Vec<u8>, parts: &AttestParts<'_>) -> Result<(), AllocError>
     requires signer { length parts.now.signer.now ≤ 65535 }
     requires extra { length parts.now.extra.now ≤ 65535 }
-    ensures text { OnOk result (out.new.items ≡ out.old.items ++ (to_be_bytes w32 magic ++ (to_be_bytes w16 attest_quote ++ (sized parts.now.signer.now ++ sized parts.now.extra.now)))) }
+    ensures text { OnOk result (out.new.items ≡ out.old.items ++ joined (header_fields ++ counted w16 parts.now.signer.now ++ counted w16 parts.now.extra.now)) }
     ensures signer { OnOk result (IsSized (2 ^ 16) parts.now.signer.now) }
     ensures extra { OnOk result (IsSized (2 ^ 16) parts.now.extra.now) }
 {
@@ -57,7 +57,7 @@ fn put_head(out: &mut Vec<u8>, parts: &AttestParts<'_>) -> Result<(), AllocError
 }
 
 fn put_clock(out: &mut Vec<u8>, parts: &AttestParts<'_>) -> Result<(), AllocError>
-    ensures text { OnOk result (out.new.items ≡ out.old.items ++ clock_text parts.now.clock parts.now.reset parts.now.restart parts.now.safe) }
+    ensures text { OnOk result (out.new.items ≡ out.old.items ++ joined (clock_fields parts.now.clock parts.now.reset parts.now.restart parts.now.safe)) }
     ensures clock { OnOk result (parts.now.clock < 2 ^ 64) }
     ensures reset { OnOk result (parts.now.reset < 2 ^ 32) }
     ensures restart { OnOk result (parts.now.restart < 2 ^ 32) }
@@ -78,7 +78,7 @@ fn yes_no(flag: bool) -> u8
 
 // One selection, whose three bytes are the mask with its lowest byte first.
 fn put_selection(out: &mut Vec<u8>, parts: &AttestParts<'_>) -> Result<(), AllocError>
-    ensures text { OnOk result (out.new.items ≡ out.old.items ++ (to_be_bytes w32 1 ++ (to_be_bytes w16 parts.now.alg ++ (to_be_bytes w8 3 ++ take 3 (to_le_bytes w32 parts.now.mask))))) }
+    ensures text { OnOk result (out.new.items ≡ out.old.items ++ joined (selections_fields (selections_of parts.now))) }
     ensures alg { OnOk result (parts.now.alg < 2 ^ 16) }
 {
     let [low, middle, high, _] = parts.mask.to_le_bytes();

@@ -1,8 +1,9 @@
 -- The first item of a list that fails a test is one, and stands at one place.
-use Rattle.std.proofs.Common.{◌≡◌, ◌<◌, List, ◌∷◌, ◌++◌, length, get_or, All, sym, ap, ◌∙◌, subst, inl, inr, arith}
+use Rattle.std.proofs.Common.{◌≡◌, ℕ, ◌<◌, List, ◌∷◌, ◌++◌, length, get_or, All, sym, ap, ◌∙◌, subst, inl, inr, arith}
 use Rattle.std.proofs.Math.ListN.{get_or-append}
 use Rattle.std.proofs.Math.Seq.{get_or-append_seam}
 use Rattle.std.proofs.lemmas.Bool.{cases_lt}
+use Rattle.kl_entry.specs.Lines.{IsFirstFailing}
 
 -- an item that fails does not stand among those that pass
 not_among : {X : Type 0} (Good : X → Type 0) (a b c d : List X) (x y : X) → a ++ x ∷ b ≡ c ++ y ∷ d → All Good c → ¬ (Good x) → ¬ (length a < length c)
@@ -24,3 +25,9 @@ one_place Good a b c d x y same first also bad worse = elim (cases_lt (length a)
 pub one_item : {X : Type 0} (a b c d : List X) (x y : X) → a ++ x ∷ b ≡ c ++ y ∷ d → length a ≡ length c → x ≡ y
 one_item a b c d x y same place =
     sym (get_or-append_seam a x b x) ∙ ap (λ xs. get_or xs (length a) x) same ∙ ap (λ n. get_or (c ++ y ∷ d) n x) place ∙ get_or-append_seam c y d x
+
+-- so the first line that fails stands at one place, whatever is said of its failing
+pub one_failing : (Good F G : List ℕ → Type 0) → ((line : List ℕ) → F line → ¬ (Good line)) → ((line : List ℕ) → G line → ¬ (Good line)) → (lines : List (List ℕ)) (p q : ℕ)
+    → IsFirstFailing Good F lines p → IsFirstFailing Good G lines q → p ≡ q
+one_failing Good F G bad worse lines p q f g =
+    sym f.counted ∙ one_place Good f.before f.after g.before g.after f.line g.line (sym f.cut ∙ g.cut) f.good g.good (bad f.line f.fails) (worse g.line g.fails) ∙ g.counted

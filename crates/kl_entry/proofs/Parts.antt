@@ -1,15 +1,18 @@
 -- Where a part of a line ends, and that a line has its parts in one way.
 use Rattle.std.proofs.Common.{◌≡◌, ℕ, ◌+◌, ◌<◌, ◌≤◌, Bool, true, false, List, [], ◌∷◌, ◌++◌, length, get_or, take, drop, refl, sym, ap, ◌∙◌, subst, arith, add-one, drop-cons, length-append}
-use Rattle.std.proofs.lemmas.Bool.{false≢true}
-use Rattle.std.proofs.lemmas.List.{take-append-drop, length-take, get_or-take, get_or-drop, length-drop}
+use Rattle.std.proofs.lemmas.Bool.{false≢true, ne_eqb, eqb-true}
+use Rattle.std.proofs.lemmas.List.{take-append-drop, length-take, get_or-take, get_or_default}
 use Rattle.std.proofs.lemmas.List.Elements.{All-head, All-tail}
 use Rattle.std.proofs.lemmas.List.Sums.{prefix_len_passes}
 use Rattle.std.proofs.Math.Seq.{take-append_seam, drop-append-add}
 use Rattle.std.proofs.lemmas.Str.{IsCharBoundary-after_ascii}
 use Rattle.std.specs.Str.{IsUtf8, IsCharBoundary}
 use Rattle.std.specs.List.{AllPass, prefix_len}
+use Rattle.std.specs.Prelude.{◌==◌, not, Some, None}
+use Rattle.memchr.specs.Find.{IsFirstByte, is_byte}
 use Rattle.hex.specs.Hex.{encode_lower}
-use Rattle.kl_entry.specs.Lines.{is_digit, is_name_byte, IsHashText, IsDigestText, IsName}
+use Rattle.kl_base.specs.Digits.{is_lower_digit}
+use Rattle.kl_entry.specs.Lines.{is_name_byte, IsHashText, IsDigestText, IsName}
 
 -- a text that passes a test, up to a byte that does not, stands at the front in one way
 pub cut_same : (p : ℕ → Bool) (a b x y : List ℕ) (c d : ℕ) → AllPass p a → AllPass p b → p c ≡ false → p d ≡ false → a ++ c ∷ x ≡ b ++ d ∷ y → (a ≡ b) × (c ≡ d) × (x ≡ y)
@@ -38,10 +41,10 @@ hash_found text hay hash rest same lt space digits after =
     let back : drop 41 hay ≡ rest = ap (λ (t : List ℕ). drop 41 t) same ∙ sym after in
     sym same ∙ whole ∙ ap (λ (t : List ℕ). t ++ 32 ∷ drop 41 hay) digits ∙ ap (λ (t : List ℕ). encode_lower hash ++ 32 ∷ t) back
 
-pub hash_missed : (text hay digits rest : List ℕ) → hay ≡ text → 40 < length hay → (AllPass is_digit (take 40 hay) → ⊥) → IsHashText digits → text ≡ digits ++ 32 ∷ rest → ⊥
+pub hash_missed : (text hay digits rest : List ℕ) → hay ≡ text → 40 < length hay → (AllPass is_lower_digit (take 40 hay) → ⊥) → IsHashText digits → text ≡ digits ++ 32 ∷ rest → ⊥
 hash_missed text hay digits rest same lt none is spelled =
     let front : take 40 hay ≡ digits = ap (λ (t : List ℕ). take 40 t) (same ∙ spelled) ∙ ap (λ (k : ℕ). take k (digits ++ 32 ∷ rest)) (sym is.len) ∙ take-append_seam digits (32 ∷ rest) in
-    none (subst (λ (t : List ℕ). AllPass is_digit t) (sym front) is.digits)
+    none (subst (λ (t : List ℕ). AllPass is_lower_digit t) (sym front) is.digits)
 
 -- ---- the name, the digest's digits and a space
 
@@ -89,15 +92,46 @@ name_missed text name digits rest n len is spelled =
     let cut = name_cut text name (digits ++ 32 ∷ rest) n len is.bytes spelled in
     (omega (arith, is.some, cut.len), omega (arith, is.short, cut.len), cut.within, cut.colon)
 
-pub digits_missed : (text hay after name digits rest : List ℕ) (n : ℕ) → hay ≡ text → n ≡ prefix_len is_name_byte hay → after ≡ drop (n + 1) hay → ((digits rest : List ℕ) → IsDigestText digits → after ≡ digits ++ 32 ∷ rest → ⊥) → IsName name → IsDigestText digits
+pub digits_missed : (text hay after name digits rest : List ℕ) (n : ℕ) → hay ≡ text → n ≡ prefix_len is_name_byte hay → after ≡ drop (n + 1) text → ((digits rest : List ℕ) → IsDigestText digits → after ≡ digits ++ 32 ∷ rest → ⊥) → IsName name → IsDigestText digits
     → text ≡ name ++ 58 ∷ (digits ++ 32 ∷ rest) → ⊥
 digits_missed text hay after name digits rest n same len back none is is_digits spelled =
     let cut = name_cut hay name (digits ++ 32 ∷ rest) n len is.bytes (same ∙ spelled) in
-    none digits rest is_digits (back ∙ cut.rest)
+    none digits rest is_digits (back ∙ ap (λ (t : List ℕ). drop (n + 1) t) (sym same) ∙ cut.rest)
 
-pub cut_behind : (text hay after : List ℕ) (n space : ℕ) → IsUtf8 hay → hay ≡ text → after ≡ drop (n + 1) hay → space < length after → get_or after space 0 ≡ 32 → IsCharBoundary text (n + space + 2)
-cut_behind text hay after n space utf8 same back within is =
-    let at : get_or hay (n + 1 + space) 0 ≡ 32 = sym (get_or-drop (n + 1) hay space 0) ∙ ap (λ (t : List ℕ). get_or t space 0) (sym back) ∙ is in
-    let lt : n + 1 + space < length hay = omega (arith, length-drop (n + 1) hay, within, ap length back) in
-    let k : n + 1 + space + 1 ≡ n + space + 2 = omega arith in
-    subst (λ (m : ℕ). IsCharBoundary text m) k (cut_after text hay (n + 1 + space) 32 utf8 same lt at (omega arith))
+-- ---- the digits of a digest up to a space, as a search for the space found it
+
+-- no space
+abbrev is_other : ℕ → Bool
+is_other b = not (b == 32)
+
+other_of : (b : ℕ) → (b ≡ 32 → ⊥) → is_other b ≡ true
+other_of b ne = ap not (ne_eqb b 32 ne)
+
+digit_other : (b : ℕ) → is_lower_digit b ≡ true → is_other b ≡ true
+digit_other b is = other_of b (λ same. let space : is_lower_digit 32 ≡ true = ap is_lower_digit (sym same) ∙ is in cc space)
+
+digits_other : (digits : List ℕ) → AllPass is_lower_digit digits → AllPass is_other digits
+digits_other digits pass = λ k d lt. digit_other (get_or digits k d) (pass k d lt)
+
+-- where no space stands, no digits and a space do
+pub space_missed : (text hay digits rest : List ℕ) → hay ≡ text → IsFirstByte (is_byte 32) hay None → text ≡ digits ++ 32 ∷ rest → ⊥
+space_missed text hay digits rest same missed spelled =
+    let whole : hay ≡ digits ++ 32 ∷ rest = same ∙ spelled in
+    let there : get_or hay (length digits) 0 ≡ 32 = ap (λ (t : List ℕ). get_or t (length digits) 0) whole ∙ get_or_seam digits rest 32 in
+    missed (length digits) (omega arith) (omega (arith, ap length whole, length-append digits (32 ∷ rest))) (rw there refl)
+
+-- the digits are what stands before the first space
+pub digits_same : (text hay digits rest : List ℕ) (at : ℕ) → hay ≡ text → IsFirstByte (is_byte 32) hay (Some at) → IsDigestText digits → text ≡ digits ++ 32 ∷ rest → take at hay ≡ digits
+digits_same text hay digits rest at same found is spelled =
+    let space : get_or hay at 0 ≡ 32 = eqb-true _ 32 found.1 in
+    let cut : take at hay ++ 32 ∷ drop (at + 1) hay ≡ digits ++ 32 ∷ rest =
+    sym (parted hay at found.0.high ∙ ap (λ (b : ℕ). take at hay ++ b ∷ drop (at + 1) hay) space) ∙ same ∙ spelled in
+    let before : AllPass is_other (take at hay) =
+    λ k d lt. let below : k < at = omega (arith, length-take at hay) in
+    let inside : k < length hay = omega (arith, found.0.high) in
+    rw (get_or-take at hay k d below, get_or_default hay k d 0 inside) (other_of (get_or hay k 0) (λ e. found.0.before k (omega arith) below (rw e refl))) in
+    (cut_same is_other (take at hay) digits (drop (at + 1) hay) rest 32 32 before (digits_other digits is.digits) refl refl cut).0
+
+-- a text may be cut behind the space
+pub space_boundary : (text hay : List ℕ) (at : ℕ) → IsUtf8 hay → hay ≡ text → IsFirstByte (is_byte 32) hay (Some at) → IsCharBoundary text (at + 1)
+space_boundary text hay at utf8 same found = cut_after text hay at 32 utf8 same found.0.high (eqb-true _ 32 found.1) (omega arith)

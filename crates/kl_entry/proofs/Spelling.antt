@@ -5,7 +5,9 @@ use Rattle.hex.specs.Hex.{encode_lower}
 use Rattle.kl_entry.specs.declared.fault.LineFault.{LineFault}
 use Rattle.kl_entry.specs.declared.fault.LineFault.TheVariants.{TooLong, Pcr, HashText, Template, Digest, Path}
 use Rattle.kl_entry.specs.Entries.{EntryFields}
-use Rattle.kl_entry.specs.Lines.{is_digit, is_name_byte, line_of, AreBytes, IsName, IsDigestText, IsPath, Spells, AfterPcr, AfterHash, AfterTemplate, AfterDigest, Passes, order, IsLineFault}
+use Rattle.kl_base.specs.Bytes.{IsBytes}
+use Rattle.kl_base.specs.Digits.{is_lower_digit}
+use Rattle.kl_entry.specs.Lines.{is_name_byte, line_of, IsName, IsDigestText, IsPath, Spells, AfterPcr, AfterHash, AfterTemplate, AfterDigest, PassesTest, order, IsLineFault}
 use Rattle.kl_entry.proofs.Hexadecimal.{hash_text, digest_text, same_bytes}
 use Rattle.kl_entry.proofs.Parts.{cut_same}
 
@@ -24,7 +26,7 @@ pub pcr_same : (line a b : List ℕ) → AfterPcr line a → AfterPcr line b →
 pcr_same line a b p q = let e : codes "10 " ++ a ≡ codes "10 " ++ b = sym p ∙ q in cc
 
 pub hash_same : (line a b : List ℕ) → AfterHash line a → AfterHash line b → a ≡ b
-hash_same line a b (s, hs, p) (t, ht, q) = (cut_same is_digit s t a b 32 32 hs.digits ht.digits refl refl (pcr_same line (s ++ 32 ∷ a) (t ++ 32 ∷ b) p q)).2
+hash_same line a b (s, hs, p) (t, ht, q) = (cut_same is_lower_digit s t a b 32 32 hs.digits ht.digits refl refl (pcr_same line (s ++ 32 ∷ a) (t ++ 32 ∷ b) p q)).2
 
 pub template_same : (line a b : List ℕ) → AfterTemplate line a → AfterTemplate line b → a ≡ b
 template_same line a b p q = let e : codes "ima-ng " ++ a ≡ codes "ima-ng " ++ b = hash_same line (codes "ima-ng " ++ a) (codes "ima-ng " ++ b) p q in cc
@@ -32,11 +34,11 @@ template_same line a b p q = let e : codes "ima-ng " ++ a ≡ codes "ima-ng " ++
 pub digest_same : (line a b : List ℕ) → AfterDigest line a → AfterDigest line b → a ≡ b
 digest_same line a b (n, s, hn, hs, p) (m, t, hm, ht, q) =
     let behind = (cut_same is_name_byte n m (s ++ 32 ∷ a) (t ++ 32 ∷ b) 58 58 hn.bytes hm.bytes refl refl (template_same line (n ++ 58 ∷ (s ++ 32 ∷ a)) (m ++ 58 ∷ (t ++ 32 ∷ b)) p q)).2 in
-    (cut_same is_digit s t a b 32 32 hs.digits ht.digits refl refl behind).2
+    (cut_same is_lower_digit s t a b 32 32 hs.digits ht.digits refl refl behind).2
 
 -- ---- an entry that is spelled passes each test
 
-pub passes_all : (line : List ℕ) (e : EntryFields) → Spells line e → (f : LineFault) → Passes f line
+pub passes_all : (line : List ℕ) (e : EntryFields) → Spells line e → (f : LineFault) → PassesTest f line
 passes_all line e (is, spelled) TooLong = omega (arith, ap length spelled, is.short)
 passes_all line e (is, spelled) Pcr = (_, spelled ∙ line_parts e)
 passes_all line e (is, spelled) HashText = (_, (encode_lower e.hash, hash_text e.hash is.hash is.hash_bytes, spelled ∙ line_parts e))
@@ -63,10 +65,10 @@ one_entry line a b (ia, sa) (ib, sb) =
     let da = digest_text a.digest ia.digest ia.digest_bytes in
     let db = digest_text b.digest ib.digest ib.digest_bytes in
     let whole : parts (encode_lower a.hash) a.alg (encode_lower a.digest) a.path ≡ parts (encode_lower b.hash) b.alg (encode_lower b.digest) b.path = sym (line_parts a) ∙ sym sa ∙ sb ∙ line_parts b in
-    let hash = cut_same is_digit (encode_lower a.hash) (encode_lower b.hash) _ _ 32 32 ha.digits hb.digits refl refl (pcr_same line _ _ (sa ∙ line_parts a) (sb ∙ line_parts b)) in
+    let hash = cut_same is_lower_digit (encode_lower a.hash) (encode_lower b.hash) _ _ 32 32 ha.digits hb.digits refl refl (pcr_same line _ _ (sa ∙ line_parts a) (sb ∙ line_parts b)) in
     let after : a.alg ++ 58 ∷ (encode_lower a.digest ++ 32 ∷ a.path) ≡ b.alg ++ 58 ∷ (encode_lower b.digest ++ 32 ∷ b.path) = let e = hash.2 in cc in
     let alg = cut_same is_name_byte a.alg b.alg _ _ 58 58 ia.alg.bytes ib.alg.bytes refl refl after in
-    let digest = cut_same is_digit (encode_lower a.digest) (encode_lower b.digest) a.path b.path 32 32 da.digits db.digits refl refl alg.2 in
+    let digest = cut_same is_lower_digit (encode_lower a.digest) (encode_lower b.digest) a.path b.path 32 32 da.digits db.digits refl refl alg.2 in
     same_fields a b (same_bytes a.hash b.hash ia.hash_bytes ib.hash_bytes hash.0) alg.0 (same_bytes a.digest b.digest ia.digest_bytes ib.digest_bytes digest.0) digest.2
 
 -- ---- one fault
@@ -104,7 +106,7 @@ one_fault line f g hf hg =
 pub fault_template : (line rest : List ℕ) → length line ≤ 8192 → AfterHash line rest → ((after : List ℕ) → rest ≡ codes "ima-ng " ++ after → ⊥) → IsLineFault line Template
 fault_template line rest short hash none = record { earlier = earlier; fails = λ (after, p). none after (hash_same line rest (codes "ima-ng " ++ after) hash p) }
   where
-    earlier : (f : LineFault) → order f < 3 → Passes f line
+    earlier : (f : LineFault) → order f < 3 → PassesTest f line
     earlier TooLong lt = short
     earlier Pcr lt = (_, hash.2)
     earlier HashText lt = (rest, hash)
@@ -115,7 +117,7 @@ fault_template line rest short hash none = record { earlier = earlier; fails = �
 pub fault_digest : (line rest : List ℕ) → length line ≤ 8192 → AfterTemplate line rest → ((name digits after : List ℕ) → IsName name → IsDigestText digits → rest ≡ name ++ 58 ∷ (digits ++ 32 ∷ after) → ⊥) → IsLineFault line Digest
 fault_digest line rest short template none = record { earlier = earlier; fails = λ (after, (name, digits, is_name, is_digits, p)). none name digits after is_name is_digits (template_same line rest (name ++ 58 ∷ (digits ++ 32 ∷ after)) template p) }
   where
-    earlier : (f : LineFault) → order f < 4 → Passes f line
+    earlier : (f : LineFault) → order f < 4 → PassesTest f line
     earlier TooLong lt = short
     earlier Pcr lt = (_, template.2)
     earlier HashText lt = (_, template)
@@ -126,7 +128,7 @@ fault_digest line rest short template none = record { earlier = earlier; fails =
 pub fault_path : (line rest : List ℕ) → length line ≤ 8192 → AfterDigest line rest → ¬ (IsPath rest) → IsLineFault line Path
 fault_path line rest short digest none = record { earlier = earlier; fails = λ (after, p, is). none (subst IsPath (sym (digest_same line rest after digest p)) is) }
   where
-    earlier : (f : LineFault) → order f < 5 → Passes f line
+    earlier : (f : LineFault) → order f < 5 → PassesTest f line
     earlier TooLong lt = short
     earlier Pcr lt = (_, digest.4.2)
     earlier HashText lt = (_, digest.4)
@@ -136,18 +138,18 @@ fault_path line rest short digest none = record { earlier = earlier; fails = λ 
 
 -- ---- how a reader goes on
 
-pub after_hash : (line behind hash rest : List ℕ) → AfterPcr line behind → behind ≡ encode_lower hash ++ 32 ∷ rest → length hash ≡ 20 → AreBytes hash → AfterHash line rest
+pub after_hash : (line behind hash rest : List ℕ) → AfterPcr line behind → behind ≡ encode_lower hash ++ 32 ∷ rest → length hash ≡ 20 → IsBytes hash → AfterHash line rest
 after_hash line behind hash rest pcr is len bytes = (encode_lower hash, hash_text hash len bytes, pcr ∙ ap (λ (t : List ℕ). codes "10 " ++ t) is)
 
 pub after_template : (line behind rest : List ℕ) → AfterHash line behind → behind ≡ codes "ima-ng " ++ rest → AfterTemplate line rest
 after_template line behind rest hash is = subst (λ (t : List ℕ). AfterHash line t) is hash
 
-pub after_digest : (line behind name digest path : List ℕ) → AfterTemplate line behind → behind ≡ name ++ 58 ∷ (encode_lower digest ++ 32 ∷ path) → IsName name → length digest ≤ 64 → AreBytes digest → AfterDigest line path
+pub after_digest : (line behind name digest path : List ℕ) → AfterTemplate line behind → behind ≡ name ++ 58 ∷ (encode_lower digest ++ 32 ∷ path) → IsName name → length digest ≤ 64 → IsBytes digest → AfterDigest line path
 after_digest line behind name digest path template is is_name len bytes = (name, encode_lower digest, is_name, digest_text digest len bytes, subst (λ (t : List ℕ). AfterTemplate line t) is template)
 
 -- an entry of the parts that were read
 pub made_of : (line : List ℕ) (e : EntryFields) (a b c : List ℕ) → length line ≤ 8192 → AfterPcr line a → a ≡ encode_lower e.hash ++ 32 ∷ b → b ≡ codes "ima-ng " ++ c → c ≡ e.alg ++ 58 ∷ (encode_lower e.digest ++ 32 ∷ e.path)
-    → length e.hash ≡ 20 → AreBytes e.hash → IsName e.alg → length e.digest ≤ 64 → AreBytes e.digest → IsPath e.path → Spells line e
+    → length e.hash ≡ 20 → IsBytes e.hash → IsName e.alg → length e.digest ≤ 64 → IsBytes e.digest → IsPath e.path → Spells line e
 made_of line e a b c short pa pb pc pd len hash name digest digest_bytes path =
     let spelled : line ≡ line_of e =
     pa ∙ ap (λ (t : List ℕ). codes "10 " ++ t) pb ∙ ap (λ (t : List ℕ). codes "10 " ++ (encode_lower e.hash ++ 32 ∷ t)) pc

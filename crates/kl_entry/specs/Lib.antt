@@ -1,7 +1,4 @@
-pub mod Digests
 pub mod Entries
-pub mod Rooms
-pub mod Padding
-pub mod Borrowed
 pub mod Lines
 pub mod Texts
+pub mod Inner

@@ -3,6 +3,8 @@
 use Rattle.std.specs.Prelude.{◌≡◌, ◌≢◌, ℕ, ◌<◌, ◌≤◌, ◌%◌, ◌==◌, ◌||◌, ◌&&◌, nat_le, Bool, List, [], ◌∷◌, ◌++◌, length, codes, All, Contains, if◌then◌else◌, ◌⊎◌}
 use Rattle.std.specs.List.{AllPass, AllZip, join_with_byte}
 use Rattle.hex.specs.Hex.{encode_lower}
+use Rattle.kl_base.specs.Bytes.{IsBytes}
+use Rattle.kl_base.specs.Digits.{is_lower_digit}
 use Rattle.kl_entry.specs.declared.fault.LineFault.{LineFault}
 use Rattle.kl_entry.specs.declared.fault.LineFault.TheVariants.{TooLong, Pcr, HashText, Template, Digest, Path}
 use Rattle.kl_entry.specs.Entries.{EntryFields}
@@ -22,11 +24,17 @@ lines_of (b ∷ bs) = if b == 10 then [] ∷ lines_of bs else onto_first b (line
 abbrev pub RejoinsTo : List (List ℕ) → List ℕ → Type 0
 RejoinsTo lines text = (join_with_byte 10 lines ≡ text) ⊎ (join_with_byte 10 lines ++ 10 ∷ [] ≡ text)
 
--- ---- The parts of a line.
+-- The line at this place, counted from 0, is the first that fails, and those before it are good.
+pub record IsFirstFailing (Good Fails : List ℕ → Type 0) (lines : List (List ℕ)) (place : ℕ) : Type 0 where
+  pub before : List (List ℕ)
+  pub line : List ℕ
+  pub after : List (List ℕ)
+  pub cut : lines ≡ before ++ line ∷ after
+  pub counted : length before ≡ place
+  pub good : All Good before
+  pub fails : Fails line
 
--- a hexadecimal digit, of 0-9a-f
-abbrev pub is_digit : ℕ → Bool
-is_digit c = (nat_le 48 c && nat_le c 57) || (nat_le 97 c && nat_le c 102)
+-- ---- The parts of a line.
 
 -- a byte of an algorithm's name, of a-z0-9_-
 abbrev pub is_name_byte : ℕ → Bool
@@ -35,7 +43,7 @@ is_name_byte c = (nat_le 97 c && nat_le c 122) || (nat_le 48 c && nat_le c 57) |
 -- the text of a template hash: 40 digits
 pub record IsHashText (text : List ℕ) : Type 0 where
   pub len : length text ≡ 40
-  pub digits : AllPass is_digit text
+  pub digits : AllPass is_lower_digit text
 
 -- the name of an algorithm: 1 to 32 bytes
 pub record IsName (name : List ℕ) : Type 0 where
@@ -47,12 +55,16 @@ pub record IsName (name : List ℕ) : Type 0 where
 pub record IsDigestText (text : List ℕ) : Type 0 where
   pub even : length text % 2 ≡ 0
   pub short : length text ≤ 128
-  pub digits : AllPass is_digit text
+  pub digits : AllPass is_lower_digit text
+
+-- the byte stands nowhere in the text
+abbrev pub HasNo : ℕ → List ℕ → Type 0
+HasNo byte text = ¬ (Contains text byte)
 
 -- a path: not empty, and without a newline
 pub record IsPath (path : List ℕ) : Type 0 where
   pub some : path ≢ []
-  pub one_line : ¬ (Contains path 10)
+  pub one_line : HasNo 10 path
 
 -- ---- What a line spells.
 
@@ -60,17 +72,13 @@ pub record IsPath (path : List ℕ) : Type 0 where
 unfoldable pub line_of : EntryFields → List ℕ
 line_of e = codes "10 " ++ encode_lower e.hash ++ codes " ima-ng " ++ e.alg ++ codes ":" ++ encode_lower e.digest ++ codes " " ++ e.path
 
--- bytes
-abbrev pub AreBytes : List ℕ → Type 0
-AreBytes bytes = All (λ b. b < 256) bytes
-
 -- what a line can spell
 pub record IsEntry (e : EntryFields) : Type 0 where
   pub hash : length e.hash ≡ 20
-  pub hash_bytes : AreBytes e.hash
+  pub hash_bytes : IsBytes e.hash
   pub alg : IsName e.alg
   pub digest : length e.digest ≤ 64
-  pub digest_bytes : AreBytes e.digest
+  pub digest_bytes : IsBytes e.digest
   pub path : IsPath e.path
   pub short : length (line_of e) ≤ 8192
 
@@ -96,14 +104,14 @@ AfterTemplate line rest = AfterHash line (codes "ima-ng " ++ rest)
 abbrev pub AfterDigest : List ℕ → List ℕ → Type 0
 AfterDigest line rest = (name : List ℕ) × (text : List ℕ) × IsName name × IsDigestText text × AfterTemplate line (name ++ 58 ∷ (text ++ 32 ∷ rest))
 
--- the test of which each fault tells
-abbrev pub Passes : LineFault → List ℕ → Type 0
-Passes TooLong line = length line ≤ 8192
-Passes Pcr line = (rest : List ℕ) × AfterPcr line rest
-Passes HashText line = (rest : List ℕ) × AfterHash line rest
-Passes Template line = (rest : List ℕ) × AfterTemplate line rest
-Passes Digest line = (rest : List ℕ) × AfterDigest line rest
-Passes Path line = (rest : List ℕ) × AfterDigest line rest × IsPath rest
+-- the line passes the test of which this fault tells
+abbrev pub PassesTest : LineFault → List ℕ → Type 0
+PassesTest TooLong line = length line ≤ 8192
+PassesTest Pcr line = (rest : List ℕ) × AfterPcr line rest
+PassesTest HashText line = (rest : List ℕ) × AfterHash line rest
+PassesTest Template line = (rest : List ℕ) × AfterTemplate line rest
+PassesTest Digest line = (rest : List ℕ) × AfterDigest line rest
+PassesTest Path line = (rest : List ℕ) × AfterDigest line rest × IsPath rest
 
 -- the place of a test in their order
 abbrev pub order : LineFault → ℕ
@@ -116,5 +124,5 @@ order Path = 5
 
 -- The fault of a line is the first test that fails.
 pub record IsLineFault (line : List ℕ) (fault : LineFault) : Type 0 where
-  pub earlier : (f : LineFault) → order f < order fault → Passes f line
-  pub fails : ¬ (Passes fault line)
+  pub earlier : (f : LineFault) → order f < order fault → PassesTest f line
+  pub fails : ¬ (PassesTest fault line)

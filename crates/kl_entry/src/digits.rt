@@ -1,53 +1,29 @@
 //! Hexadecimal digits in lower case.
 
-ghost use Rattle.std.specs.Prelude.{◌≡◌, ◌<◌, ◌≤◌, ◌*◌, slice_index, length, IfSome, IfNone, false};
+ghost use Rattle.std.specs.Prelude.{◌≡◌, ◌*◌, length};
+ghost use Rattle.std.specs.Bool.{OnFalse, OnTrue};
 ghost use Rattle.std.specs.List.{AllPass};
-ghost use Rattle.hex.specs.Hex.{encode_lower, lower_digits};
-ghost use Rattle.kl_entry.specs.Lines.{is_digit, AreBytes};
+ghost use Rattle.hex.specs.Hex.{encode_lower};
+ghost use Rattle.kl_base.specs.Bytes.{IsBytes};
+ghost use Rattle.kl_base.specs.Digits.{is_lower_digit};
 
-/// The value of each byte as a digit of `0-9a-f`, and 255 for one that is no such digit.
-static DIGITS: [u8; 256] = [
-    255, 255, 255, 255, 255, 255, 255, 255, 255, 255, 255, 255, 255, 255, 255, 255, 255, 255, 255,
-    255, 255, 255, 255, 255, 255, 255, 255, 255, 255, 255, 255, 255, 255, 255, 255, 255, 255, 255,
-    255, 255, 255, 255, 255, 255, 255, 255, 255, 255, 0, 1, 2, 3, 4, 5, 6, 7, 8, 9, 255, 255, 255,
-    255, 255, 255, 255, 255, 255, 255, 255, 255, 255, 255, 255, 255, 255, 255, 255, 255, 255, 255,
-    255, 255, 255, 255, 255, 255, 255, 255, 255, 255, 255, 255, 255, 255, 255, 255, 255, 10, 11,
-    12, 13, 14, 15, 255, 255, 255, 255, 255, 255, 255, 255, 255, 255, 255, 255, 255, 255, 255, 255,
-    255, 255, 255, 255, 255, 255, 255, 255, 255, 255, 255, 255, 255, 255, 255, 255, 255, 255, 255,
-    255, 255, 255, 255, 255, 255, 255, 255, 255, 255, 255, 255, 255, 255, 255, 255, 255, 255, 255,
-    255, 255, 255, 255, 255, 255, 255, 255, 255, 255, 255, 255, 255, 255, 255, 255, 255, 255, 255,
-    255, 255, 255, 255, 255, 255, 255, 255, 255, 255, 255, 255, 255, 255, 255, 255, 255, 255, 255,
-    255, 255, 255, 255, 255, 255, 255, 255, 255, 255, 255, 255, 255, 255, 255, 255, 255, 255, 255,
-    255, 255, 255, 255, 255, 255, 255, 255, 255, 255, 255, 255, 255, 255, 255, 255, 255, 255, 255,
-    255, 255, 255, 255, 255, 255, 255, 255, 255, 255, 255, 255, 255, 255, 255, 255, 255, 255, 255,
-    255, 255, 255, 255,
-];
+use kl_base::lower_digit;
 
-/// The value of a digit of `0-9a-f`, or 16 and more where the byte is none.
-#[inline(always)]
-pub(crate) fn digit(byte: u8) -> u8
-    ensures value { result < 16 → slice_index lower_digits result ≡ byte }
-    ensures refused { 16 ≤ result → is_digit byte ≡ false }
+/// Writes the bytes that these digits of `0-9a-f` spell, one byte for two digits. False where one is
+/// no such digit.
+pub(crate) fn decode(digits: &[u8], room: &mut [u8]) -> bool
+    requires { length digits.now ≡ 2 * length room.old }
+    ensures read { OnTrue result (digits.now ≡ encode_lower room.new) }
+    ensures bytes { OnTrue result (IsBytes room.new) }
+    ensures none { OnFalse result (¬ (AllPass is_lower_digit digits.now)) }
 {
-    DIGITS[byte as usize]
-}
-
-/// The 20 bytes that 40 digits spell, or None where one of the bytes is no digit.
-pub(crate) fn hash_of(text: &[u8]) -> Option<[u8; 20]>
-    requires { length text.now ≡ 40 }
-    ensures some { IfSome result (λ hash. text.now ≡ encode_lower hash) }
-    ensures len { IfSome result (λ hash. length hash ≡ 20) }
-    ensures bytes { IfSome result (λ hash. AreBytes hash) }
-    ensures none { IfNone result (¬ (AllPass is_digit text.now)) }
-{
-    let mut hash = [0; 20];
-    for i in 0..20 {
-        let high = digit(text[2 * i]);
-        let low = digit(text[2 * i + 1]);
+    for i in 0..room.len() {
+        let high = lower_digit(digits[2 * i]);
+        let low = lower_digit(digits[2 * i + 1]);
         if high > 15 || low > 15 {
-            return None;
+            return false;
         }
-        hash[i] = high * 16 + low;
+        room[i] = high * 16 + low;
     }
-    Some(hash)
+    true
 }

@@ -22,7 +22,7 @@ impl<'a> Model for Entry<'a> {
 
     ghost Value = { EntryFields };
 
-    ghost use Rattle.kl_entry.specs.Borrowed.{fields_of};
+    ghost use Rattle.kl_entry.specs.Inner.Borrowed.{fields_of};
 
     ghost view = { fields_of };
 

@@ -22,7 +22,7 @@ impl Model for EntryData {
 
     ghost Value = { List ℕ };
 
-    ghost use Rattle.kl_entry.specs.Rooms.{IsInRoom, used};
+    ghost use Rattle.kl_entry.specs.Inner.Rooms.{IsInRoom, used};
 
     ghost view = { used };
 
@@ -38,6 +38,15 @@ impl EntryData {
             bytes: [0; ROOM],
             len: 0,
         }
+    }
+
+    /// A room with the template data of this entry.
+    pub fn of(entry: &Entry<'_>) -> EntryData
+        ensures { result ≡ data_of entry.now }
+    {
+        let mut data = EntryData::new();
+        data.lay_out(entry);
+        data
     }
 
     /// Lays out the template data of the entry in place of what was laid out before.

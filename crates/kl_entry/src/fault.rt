@@ -1,9 +1,8 @@
-//! Why a line spells no entry, and want of memory.
+//! Why a line spells no entry.
 
-ghost use Rattle.std.specs.Prelude.{Some, codes};
+ghost use Rattle.std.specs.Prelude.{Some};
 ghost use Rattle.kl_entry.specs.Texts.{fault_text};
 
-use std::alloc::{AllocError, AllocFailed};
 use std::error::Error;
 use std::fmt;
 
@@ -41,33 +40,3 @@ impl fmt::Display for LineFault {
 }
 
 impl Error for LineFault {}
-
-/// Want of memory.
-#[derive(Clone, Copy, Debug, PartialEq, Eq)]
-pub struct Memory;
-
-impl From<AllocError> for Memory {
-    ghost from_gives = { λ _ _. Unit {0} };
-
-    fn from(_e: AllocError) -> Memory {
-        Memory
-    }
-}
-
-impl<T: Drop> From<AllocFailed<T>> for Memory {
-    ghost from_gives = { λ _ _. Unit {0} };
-
-    fn from(_e: AllocFailed<T>) -> Memory {
-        Memory
-    }
-}
-
-impl fmt::Display for Memory {
-    ghost output = { λ _. Some (codes "out of memory") };
-
-    fn fmt<W: fmt::Write>(&self, f: &mut fmt::Formatter<W>) -> fmt::Result {
-        f.write_str("out of memory")
-    }
-}
-
-impl Error for Memory {}

@@ -1,20 +1,24 @@
 //! The digest of a file.
 
-ghost use Rattle.std.specs.Prelude.{◌≡◌, ◌≤◌, ◌<◌, ℕ, List, ◌∷◌, ◌++◌, length, take, slice_index, IfSome, IfNone};
+ghost use Rattle.std.specs.Prelude.{◌≡◌, ◌≤◌, ◌<◌, ◌%◌, ◌↔◌, length, IfSome, IfNone, IsTrue};
 ghost use Rattle.hex.specs.Hex.{encode_lower};
-ghost use Rattle.kl_entry.specs.Lines.{IsDigestText, AreBytes};
+ghost use Rattle.kl_base.specs.Bytes.{IsBytes};
+ghost use Rattle.kl_entry.specs.Lines.{IsDigestText};
 
-use crate::digits::digit;
+use crate::digits::decode;
+use kl_base::Short;
 use std::marker::Model;
 
 /// The most bytes of a file's digest.
 const ROOM: usize = 64;
 
+/// The most digits of its text.
+const MAX_DIGITS: usize = 128;
+
 /// The digest of a file: at most 64 bytes, which contracts see as a list.
 #[derive(Clone, Copy, Debug)]
 pub struct FileDigest {
-    bytes: [u8; ROOM],
-    len: usize,
+    bytes: Short<64>,
 }
 
 impl Model for FileDigest {
@@ -22,17 +26,9 @@ impl Model for FileDigest {
 
     ghost Value = { List ℕ };
 
-    ghost use Rattle.kl_entry.specs.Digests.{IsPadded, bytes_of, in_memory};
+    ghost view = { λ d. d.bytes };
 
-    ghost view = { bytes_of };
-
-    ghost invariant = { IsPadded };
-
-    ghost inverse = { in_memory };
-
-    ghost use Rattle.kl_entry.specs.Padding.{in_memory-bytes_of};
-
-    ghost inverse_ok = { in_memory-bytes_of };
+    ghost inverse = { λ bytes. record { bytes = bytes } };
 }
 
 impl FileDigest {
@@ -45,44 +41,30 @@ impl FileDigest {
         if bytes.len() > ROOM {
             return None;
         }
-        let mut room = [0; ROOM];
-        room[..bytes.len()].copy_from_slice(bytes);
         Some(FileDigest {
-            bytes: room,
-            len: bytes.len(),
+            bytes: Short::new(bytes),
         })
     }
 
-    /// The digest whose digits of `0-9a-f` stand at the front, up to a space, and the place of that
-    /// space. None where an even number of at most 128 digits and a space don't stand there.
-    pub(crate) fn from_digits(text: &[u8]) -> Option<(FileDigest, usize)>
-        ensures place { IfSome result (λ found. found.1 < length text.now) }
-        ensures space { IfSome result (λ found. slice_index text.now found.1 ≡ 32) }
-        ensures digits { IfSome result (λ found. take found.1 text.now ≡ encode_lower found.0) }
-        ensures short { IfSome result (λ found. length found.0 ≤ 64) }
-        ensures bytes { IfSome result (λ found. AreBytes found.0) }
-        ensures none { IfNone result ((digits rest : List ℕ) → IsDigestText digits → ¬ (text.now ≡ digits ++ 32 ∷ rest)) }
+    /// The digest of which this is the text, or None where it is not an even number of at most 128
+    /// digits of `0-9a-f`. A digest may be empty.
+    pub(crate) fn from_digits(text: &[u8]) -> Option<FileDigest>
+        ensures digits { IfSome result (λ digest. text.now ≡ encode_lower digest) }
+        ensures short { IfSome result (λ digest. length digest ≤ 64) }
+        ensures bytes { IfSome result (λ digest. IsBytes digest) }
+        ensures none { IfNone result (¬ (IsDigestText text.now)) }
     {
-        let mut bytes = [0; ROOM];
-        for len in 0..=ROOM {
-            let at = 2 * len;
-            if at >= text.len() {
-                return None;
-            }
-            if text[at] == b' ' {
-                return Some((FileDigest { bytes, len }, at));
-            }
-            if len == ROOM || at + 1 >= text.len() {
-                return None;
-            }
-            let high = digit(text[at]);
-            let low = digit(text[at + 1]);
-            if high > 15 || low > 15 {
-                return None;
-            }
-            bytes[len] = high * 16 + low;
+        if !is_digest_len(text.len()) {
+            return None;
         }
-        None
+        let mut room = [0; ROOM];
+        let bytes = &mut room[..text.len() / 2];
+        if !decode(text, bytes) {
+            return None;
+        }
+        Some(FileDigest {
+            bytes: Short::new(bytes),
+        })
     }
 
     /// The bytes of the digest.
@@ -90,6 +72,13 @@ impl FileDigest {
         ensures value { result.now ≡ self.now }
         ensures short { length self.now ≤ 64 }
     {
-        &self.bytes[..self.len]
+        self.bytes.as_slice()
     }
+}
+
+/// Whether the text of a digest may have so many digits: an even number from 0 to 128.
+fn is_digest_len(digits: usize) -> bool
+    ensures { IsTrue result ↔ ((digits % 2 ≡ 0) × (digits ≤ 128)) }
+{
+    digits % 2 == 0 && digits <= MAX_DIGITS
 }

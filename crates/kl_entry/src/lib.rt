@@ -19,8 +19,9 @@ mod writing;
 
 pub use entry::Entry;
 pub use entry_data::EntryData;
-pub use fault::{LineFault, Memory};
+pub use fault::LineFault;
 pub use file_digest::FileDigest;
+pub use kl_base::Memory;
 pub use line_iterator::Lines;
 pub use listing::lines;
 pub use meaning::{consistent, consistent_with, violation};

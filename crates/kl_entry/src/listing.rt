@@ -1,7 +1,7 @@
 //! Where the lines of a list begin.
 
-ghost use Rattle.std.specs.Prelude.{◌≡◌, All, Contains};
-ghost use Rattle.kl_entry.specs.Lines.{lines_of, RejoinsTo};
+ghost use Rattle.std.specs.Prelude.{◌≡◌, All};
+ghost use Rattle.kl_entry.specs.Lines.{lines_of, HasNo, RejoinsTo};
 
 use crate::line_iterator::Lines;
 
@@ -10,7 +10,7 @@ use crate::line_iterator::Lines;
 pub fn lines(text: &str) -> Lines<'_>
     ensures starts { result ≡ text.now }
     // What the lines are, in other words: no line has a newline, and joined they are the text.
-    ensures cut { All (λ line. ¬ (Contains line 10)) (lines_of text.now) }
+    ensures cut { All (HasNo 10) (lines_of text.now) }
     ensures whole { RejoinsTo (lines_of text.now) text.now }
 {
     Lines::over(text)

@@ -3,10 +3,11 @@
 ghost use Rattle.std.specs.Prelude.{◌≡◌, ◌≢◌, ◌≤◌, ◌↔◌, ℕ, List, Ok, Err, [], ◌∷◌, ◌++◌, length, codes, IfOk, IfErr, IfSome, IfNone, IsTrue};
 ghost use Rattle.std.specs.List.{AllPass, prefix_len};
 ghost use Rattle.hex.specs.Hex.{encode_lower};
+ghost use Rattle.kl_base.specs.Bytes.{IsBytes};
 ghost use Rattle.kl_entry.specs.Entries.{EntryFields};
-ghost use Rattle.kl_entry.specs.Lines.{is_name_byte, AreBytes, IsHashText, IsName, IsDigestText, IsPath, Spells, IsLineFault};
+ghost use Rattle.kl_entry.specs.Lines.{is_name_byte, IsHashText, IsName, IsDigestText, IsPath, Spells, IsLineFault};
 
-use crate::digits::hash_of;
+use crate::digits::decode;
 use crate::entry::Entry;
 use crate::fault::LineFault;
 use crate::file_digest::FileDigest;
@@ -32,7 +33,7 @@ pub fn read_entry(line: &str) -> Result<Entry<'_>, LineFault>
     ensures only { (e : EntryFields) → Spells line.now e → result ≡ Ok e }
     ensures fault { IfErr result (λ f. IsLineFault line.now f) }
     // No other fault is the line's.
-    ensures exact { (f : LineFault) → IsLineFault line.now f → result ≡ Err f }
+    ensures alone { (f : LineFault) → IsLineFault line.now f → result ≡ Err f }
 {
     first_fault(line)
 }
@@ -90,17 +91,18 @@ fn after_template(text: &str) -> Option<&str>
 fn split_hash(text: &str) -> Option<([u8; 20], &str)>
     ensures text { IfSome result (λ found. text.now ≡ encode_lower found.0 ++ 32 ∷ found.1.now) }
     ensures len { IfSome result (λ found. length found.0 ≡ 20) }
-    ensures bytes { IfSome result (λ found. AreBytes found.0) }
+    ensures bytes { IfSome result (λ found. IsBytes found.0) }
     ensures none { IfNone result ((digits rest : List ℕ) → IsHashText digits → ¬ (text.now ≡ digits ++ 32 ∷ rest)) }
 {
     let bytes = text.as_bytes();
     if bytes.len() <= HASH_DIGITS || bytes[HASH_DIGITS] != b' ' {
         return None;
     }
-    match hash_of(&bytes[..HASH_DIGITS]) {
-        Some(hash) => Some((hash, &text[HASH_DIGITS + 1..])),
-        None => None,
+    let mut hash = [0; HASH_DIGITS / 2];
+    if !decode(&bytes[..HASH_DIGITS], &mut hash) {
+        return None;
     }
+    Some((hash, &text[HASH_DIGITS + 1..]))
 }
 
 /// The algorithm's name, the file's digest, and what follows them and a space.
@@ -108,7 +110,7 @@ fn split_digest(text: &str) -> Option<(&str, FileDigest, &str)>
     ensures text { IfSome result (λ found. text.now ≡ found.0.now ++ 58 ∷ (encode_lower found.1 ++ 32 ∷ found.2.now)) }
     ensures name { IfSome result (λ found. IsName found.0.now) }
     ensures short { IfSome result (λ found. length found.1 ≤ 64) }
-    ensures bytes { IfSome result (λ found. AreBytes found.1) }
+    ensures bytes { IfSome result (λ found. IsBytes found.1) }
     ensures none { IfNone result
         ((name digits rest : List ℕ)
         → IsName name
@@ -120,8 +122,25 @@ fn split_digest(text: &str) -> Option<(&str, FileDigest, &str)>
     if len == 0 || len > MAX_NAME || len >= bytes.len() || bytes[len] != b':' {
         return None;
     }
-    match FileDigest::from_digits(&bytes[len + 1..]) {
-        Some((digest, space)) => Some((&text[..len], digest, &text[len + space + 2..])),
+    match split_digits(&text[len + 1..]) {
+        Some((digest, path)) => Some((&text[..len], digest, path)),
+        None => None,
+    }
+}
+
+/// The file's digest, and what follows its digits and a space.
+fn split_digits(text: &str) -> Option<(FileDigest, &str)>
+    ensures text { IfSome result (λ found. text.now ≡ encode_lower found.0 ++ 32 ∷ found.1.now) }
+    ensures short { IfSome result (λ found. length found.0 ≤ 64) }
+    ensures bytes { IfSome result (λ found. IsBytes found.0) }
+    ensures none { IfNone result ((digits rest : List ℕ) → IsDigestText digits → ¬ (text.now ≡ digits ++ 32 ∷ rest)) }
+{
+    let bytes = text.as_bytes();
+    let Some(space) = memchr(b' ', bytes) else {
+        return None;
+    };
+    match FileDigest::from_digits(&bytes[..space]) {
+        Some(digest) => Some((digest, &text[space + 1..])),
         None => None,
     }
 }

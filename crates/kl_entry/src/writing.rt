@@ -4,7 +4,7 @@ ghost use Rattle.std.specs.Prelude.{◌≡◌, IfOk, string_bytes};
 ghost use Rattle.kl_entry.specs.Lines.{IsEntry, Spells, line_of};
 
 use crate::entry::Entry;
-use crate::fault::Memory;
+use kl_base::Memory;
 use std::alloc::Global;
 
 /// The one line, without a newline, that spells the entry.

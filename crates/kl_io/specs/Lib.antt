@@ -1,3 +1,5 @@
 pub mod Adapters
-pub mod Causes
+pub mod Calls
 pub mod Memory
+pub mod Moments
+pub mod Told

@@ -1,12 +1,11 @@
 //! Why a call did not do its work.
 
-ghost use Rattle.std.specs.Prelude.{⊤, Some, codes};
+ghost use Rattle.std.specs.Prelude.{Some, codes};
 
-use std::alloc::{AllocError, AllocFailed};
 use std::error::Error;
 use std::fmt;
 
-/// A source or a sink met a fault, which it counted.
+/// An object met a fault, which it counted.
 #[derive(Clone, Copy, Debug, PartialEq, Eq)]
 pub struct Failed;
 
@@ -19,33 +18,3 @@ impl fmt::Display for Failed {
 }
 
 impl Error for Failed {}
-
-/// Memory ran out.
-#[derive(Clone, Copy, Debug, PartialEq, Eq)]
-pub struct Memory;
-
-impl fmt::Display for Memory {
-    ghost output = { λ _. Some (codes "out of memory") };
-
-    fn fmt<W: fmt::Write>(&self, f: &mut fmt::Formatter<W>) -> fmt::Result {
-        f.write_str("out of memory")
-    }
-}
-
-impl Error for Memory {}
-
-impl From<AllocError> for Memory {
-    ghost from_gives = { λ _ _. ⊤ };
-
-    fn from(_e: AllocError) -> Memory {
-        Memory
-    }
-}
-
-impl<T: Drop> From<AllocFailed<T>> for Memory {
-    ghost from_gives = { λ _ _. ⊤ };
-
-    fn from(_e: AllocFailed<T>) -> Memory {
-        Memory
-    }
-}

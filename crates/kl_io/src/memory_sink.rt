@@ -2,11 +2,12 @@
 
 ghost use Rattle.std.specs.Prelude.{◌≡◌, ◌≢◌, ◌⊎◌, ◌↔◌, [], ◌++◌, IfOk, IsErr, OnErr, OnOk, None, Some};
 ghost use Rattle.std.specs.Io.KnownBytes.{Appends};
-ghost use Rattle.kl_io.specs.Causes.{one_more, AppendsFront, HasCause};
+ghost use Rattle.kl_io.specs.Calls.{Counts};
 ghost use Rattle.kl_io.specs.Memory.{IsListed, PassesRoom};
+ghost use Rattle.kl_io.specs.Told.{AppendsFront, new_sink};
 
-use crate::script::Script;
-use crate::{Failed, Memory, Sink};
+use crate::{Failed, Script, Sink};
+use kl_base::Memory;
 use std::alloc::Global;
 use std::marker::Model;
 
@@ -30,9 +31,7 @@ impl Model for MemSink {
     ghost view = { λ s. record {
       bytes = s.bytes.items;
       room = s.room;
-      fails = s.script.fails.items;
-      calls = s.script.calls;
-      faults = s.script.faults;
+      script = s.script;
     } };
 
     ghost invariant = { λ s. (vec_len s.bytes ≤ s.room) × (s.room ≤ vec_capacity s.bytes) };
@@ -46,13 +45,10 @@ impl MemSink {
     pub fn new(alloc: Global, room: usize, fails: &[u64]) -> Result<MemSink, Memory>
         ensures empty { IfOk result (λ s. s.bytes ≡ []) }
         ensures room { IfOk result (λ s. s.room ≡ room) }
-        ensures fails { IfOk result (λ s. s.fails ≡ fails.now) }
-        ensures no_call { IfOk result (λ s. s.calls ≡ 0) }
-        ensures no_fault { IfOk result (λ s. s.faults ≡ 0) }
+        ensures fails { IfOk result (λ s. s.script.fails ≡ fails.now) }
 
-        // As a `Sink` it tells that it holds nothing, and no fault.
-        ensures tells { IfOk result (λ s. ⟦<MemSink as Sink>⟧.held s ≡ Some []) }
-        ensures counts { IfOk result (λ s. ⟦<MemSink as Sink>⟧.fault_count s ≡ 0) }
+        // As a `Sink` it tells that it holds nothing, and no call.
+        ensures tells { IfOk result (λ s. ⟦<MemSink as Sink>⟧.told s ≡ new_sink (Some [])) }
     {
         let script = Script::new(alloc, fails)?;
         Ok(MemSink {
@@ -71,39 +67,25 @@ impl MemSink {
 }
 
 impl Sink for MemSink {
-    ghost held = { λ s. Some s.bytes };
+    ghost told = { λ s. record { held = Some s.bytes; ahead = None; place = 0; calls = s.script.calls } };
 
-    ghost ahead = { λ _. None };
-
-    ghost fault_count = { λ s. s.faults };
-
-    ghost place = { λ _. 0 };
-
-    fn faults(&self) -> u64
-        ensures { result ≡ self.now.faults }
-    {
-        self.script.faults
+    fn faults(&self) -> u64 {
+        self.script.faults()
     }
 
     fn put(&mut self, piece: &[u8]) -> Result<(), Failed>
         ensures whole { OnOk result (Appends (Some self.old.bytes) (Some self.new.bytes) piece.now) }
         ensures front { OnErr result (AppendsFront (Some self.old.bytes) (Some self.new.bytes) piece.now) }
-        ensures cause { HasCause self.old.faults self.new.faults result }
+        ensures counted { Counts self.old.script.calls self.new.script.calls (IsErr result) }
 
         // It fails exactly at the listed calls and where the room is passed, and then appends nothing.
-        ensures failing { IsErr result ↔ (IsListed self.old.fails self.old.calls ⊎ PassesRoom self.old piece.now) }
+        ensures failing { IsErr result ↔ (IsListed self.old.script ⊎ PassesRoom self.old piece.now) }
         ensures nothing { OnErr result (self.new.bytes ≡ self.old.bytes) }
-
         ensures room { self.new.room ≡ self.old.room }
-        ensures fails { self.new.fails ≡ self.old.fails }
-        ensures calls { self.new.calls ≡ one_more self.old.calls }
-        ensures met { OnErr result (self.new.faults ≡ one_more self.old.faults) }
-        ensures unmet { OnOk result (self.new.faults ≡ self.old.faults) }
+        ensures fails { self.new.script.fails ≡ self.old.script.fails }
     {
-        self.script.turn()?;
-        if piece.len() > self.room - self.bytes.len() {
-            return Err(self.script.fault());
-        }
+        let passes = piece.len() > self.room - self.bytes.len();
+        self.script.turn_unless(passes)?;
         if self.bytes.extend_from_slice(piece).is_err() {
             unreachable!()
         }

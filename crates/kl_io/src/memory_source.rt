@@ -1,13 +1,15 @@
 //! Bytes in memory as a source.
 
-ghost use Rattle.std.specs.Prelude.{◌≡◌, ◌↔◌, length, min, take, IfOk, IsErr, OnErr, OnOk, None, Some};
+ghost use Rattle.std.specs.Prelude.{◌≡◌, ◌↔◌, length, min, IfOk, IsErr, None, Some};
 ghost use Rattle.std.specs.Io.{ReadsAtMost};
 ghost use Rattle.std.specs.Io.KnownBytes.{ReadConsumes};
-ghost use Rattle.kl_io.specs.Causes.{one_more, HasCause};
+ghost use Rattle.kl_io.specs.Calls.{Counts};
 ghost use Rattle.kl_io.specs.Memory.{IsListed};
+ghost use Rattle.kl_io.specs.Told.{new_source};
 
-use crate::script::Script;
-use crate::{Failed, Memory, Source};
+use crate::stock::Stock;
+use crate::{Failed, Script, Source};
+use kl_base::Memory;
 use std::alloc::Global;
 use std::marker::Model;
 
@@ -17,25 +19,16 @@ use std::marker::Model;
 /// bytes as there are and the buffer has room for.
 #[derive(Drop)]
 pub struct MemSource {
-    content: Vec<u8>,
-    taken: usize,
+    stock: Stock,
     script: Script,
 }
 
 impl Model for MemSource {
-    ghost use Rattle.std.specs.Prelude.{◌≤◌, drop, vec_len};
     ghost use Rattle.kl_io.specs.Memory.{SourceState};
 
     ghost Value = { SourceState };
 
-    ghost view = { λ s. record {
-      rest = drop s.taken s.content.items;
-      fails = s.script.fails.items;
-      calls = s.script.calls;
-      faults = s.script.faults;
-    } };
-
-    ghost invariant = { λ s. s.taken ≤ vec_len s.content };
+    ghost view = { λ s. record { rest = s.stock; script = s.script } };
 }
 
 impl MemSource {
@@ -45,64 +38,36 @@ impl MemSource {
     /// [`Memory`] where there is none for the list of numbers.
     pub fn new(alloc: Global, content: Vec<u8>, fails: &[u64]) -> Result<MemSource, Memory>
         ensures content { IfOk result (λ s. s.rest ≡ content.items) }
-        ensures fails { IfOk result (λ s. s.fails ≡ fails.now) }
-        ensures no_call { IfOk result (λ s. s.calls ≡ 0) }
-        ensures no_fault { IfOk result (λ s. s.faults ≡ 0) }
+        ensures fails { IfOk result (λ s. s.script.fails ≡ fails.now) }
 
-        // As a `Source` it tells its content and no fault.
-        ensures tells { IfOk result (λ s. ⟦<MemSource as Source>⟧.left s ≡ Some content.items) }
-        ensures counts { IfOk result (λ s. ⟦<MemSource as Source>⟧.fault_count s ≡ 0) }
+        // As a `Source` it tells its content, and no call.
+        ensures tells { IfOk result (λ s. ⟦<MemSource as Source>⟧.told s ≡ new_source (Some content.items)) }
     {
         Ok(MemSource {
-            content,
-            taken: 0,
+            stock: Stock::new(content),
             script: Script::new(alloc, fails)?,
         })
     }
 }
 
 impl Source for MemSource {
-    ghost left = { λ s. Some s.rest };
+    ghost told = { λ s. record { left = Some s.rest; kept = None; place = 0; calls = s.script.calls } };
 
-    ghost kept = { λ _. None };
-
-    ghost fault_count = { λ s. s.faults };
-
-    ghost place = { λ _. 0 };
-
-    fn faults(&self) -> u64
-        ensures { result ≡ self.now.faults }
-    {
-        self.script.faults
+    fn faults(&self) -> u64 {
+        self.script.faults()
     }
 
     fn read(&mut self, buf: &mut [u8]) -> Result<usize, Failed>
         ensures bound { ReadsAtMost result buf.new }
         ensures bytes { ReadConsumes (Some self.old.rest) (Some self.new.rest) result buf.new }
-        ensures cause { HasCause self.old.faults self.new.faults result }
+        ensures counted { Counts self.old.script.calls self.new.script.calls (IsErr result) }
 
         // It fails exactly at the listed calls, and else takes all that there is room for.
-        ensures listed { IsErr result ↔ IsListed self.old.fails self.old.calls }
+        ensures listed { IsErr result ↔ IsListed self.old.script }
         ensures count { IfOk result (λ n. n ≡ min (length buf.old) (length self.old.rest)) }
-
-        ensures fails { self.new.fails ≡ self.old.fails }
-        ensures calls { self.new.calls ≡ one_more self.old.calls }
-        ensures met { OnErr result (self.new.faults ≡ one_more self.old.faults) }
-        ensures unmet { OnOk result (self.new.faults ≡ self.old.faults) }
+        ensures fails { self.new.script.fails ≡ self.old.script.fails }
     {
         self.script.turn()?;
-        let count = copy_front(&self.content[self.taken..], buf);
-        self.taken += count;
-        Ok(count)
+        Ok(self.stock.hand_out(buf))
     }
-}
-
-/// Copies as many bytes as both have, front to front, and says how many.
-fn copy_front(from: &[u8], to: &mut [u8]) -> usize
-    ensures count { result ≡ min (length to.old) (length from.now) }
-    ensures copied { take result to.new ≡ take result from.now }
-{
-    let count = to.len().min(from.len());
-    to[..count].copy_from_slice(&from[..count]);
-    count
 }

@@ -1,30 +1,21 @@
 //! Where bytes come from.
 
-ghost use Rattle.std.specs.Prelude.{◌≡◌, List, ℕ};
-ghost use Rattle.std.specs.declared.option.Option.{Option};
+ghost use Rattle.std.specs.Prelude.{◌≡◌, IsErr};
 ghost use Rattle.std.specs.Io.{ReadsAtMost};
 ghost use Rattle.std.specs.Io.KnownBytes.{ReadConsumes};
-ghost use Rattle.kl_io.specs.Causes.{HasCause};
+ghost use Rattle.kl_io.specs.Calls.{Counts};
+ghost use Rattle.kl_io.specs.Told.{SourceTold};
 
 use crate::Failed;
 
-/// Gives bytes in order, and counts its faults.
+/// Gives bytes in order, and counts its calls and its faults.
 pub trait Source {
-    /// The bytes that reads will take from here on, where they are known.
-    ghost left: { Self → Option (List ℕ) };
+    /// What it tells: the bytes left, and what it counted.
+    ghost told: { Self → SourceTold };
 
-    /// The bytes that the object holds as a sink, where it is one and they are known. Reads keep them.
-    ghost kept: { Self → Option (List ℕ) };
-
-    /// How many faults it has met. The count stops at `u64::MAX`.
-    ghost fault_count: { Self → ℕ };
-
-    /// Which object it is, where it is a borrow of another. No call changes it.
-    ghost place: { Self → ℕ };
-
-    /// How many faults it has met.
+    /// How many calls have met a fault, up to `u64::MAX`.
     fn faults(&self) -> u64
-        ensures { result ≡ fault_count self.now };
+        ensures { result ≡ (told self.now).calls.faults };
 
     /// Takes the next bytes into the front of the buffer, and says how many. None into a buffer that has
     /// room is the end of the input.
@@ -33,8 +24,8 @@ pub trait Source {
     /// [`Failed`] where the source met a fault in this call. Then it took nothing.
     fn read(&mut self, buf: &mut [u8]) -> Result<usize, Failed>
         ensures bound { ReadsAtMost result buf.new }
-        ensures bytes { ReadConsumes (left self.old) (left self.new) result buf.new }
-        ensures kept { kept self.new ≡ kept self.old }
-        ensures same { place self.new ≡ place self.old }
-        ensures cause { HasCause (fault_count self.old) (fault_count self.new) result };
+        ensures bytes { ReadConsumes (told self.old).left (told self.new).left result buf.new }
+        ensures kept { (told self.new).kept ≡ (told self.old).kept }
+        ensures same { (told self.new).place ≡ (told self.old).place }
+        ensures counted { Counts (told self.old).calls (told self.new).calls (IsErr result) };
 }

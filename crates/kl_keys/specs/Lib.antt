@@ -1,4 +1,4 @@
 pub mod Hmac
-pub mod Relations
-pub mod Causes
 pub mod Mac
+pub mod Relations
+pub mod Told

@@ -3,15 +3,12 @@
 ghost use Rattle.std.specs.Prelude.{◌≡◌, ⊤};
 ghost use Rattle.kl_keys.specs.declared.fault.KeysError.TheVariants as errors;
 
+use kl_io::Failed;
 use std::alloc::AllocError;
 
 /// The keys could not be asked; their count of faults rose.
 #[derive(Clone, Copy, Debug, PartialEq, Eq, Drop)]
 pub struct KeysFault;
-
-/// Memory ran out.
-#[derive(Clone, Copy, Debug, PartialEq, Eq, Drop)]
-pub struct Memory;
 
 /// Why there is no signature.
 #[derive(Clone, Copy, Debug, PartialEq, Eq, Drop)]
@@ -22,10 +19,18 @@ pub enum KeysError {
     Memory,
 }
 
-impl From<KeysFault> for KeysError {
+impl From<Failed> for KeysFault {
+    ghost from_gives = { λ _ _. ⊤ };
+
+    fn from(_failed: Failed) -> KeysFault {
+        KeysFault
+    }
+}
+
+impl From<Failed> for KeysError {
     ghost from_gives = { λ _ e. e ≡ errors.Fault };
 
-    fn from(_fault: KeysFault) -> KeysError {
+    fn from(_failed: Failed) -> KeysError {
         KeysError::Fault
     }
 }
@@ -33,15 +38,7 @@ impl From<KeysFault> for KeysError {
 impl From<AllocError> for KeysError {
     ghost from_gives = { λ _ e. e ≡ errors.Memory };
 
-    fn from(_failed: AllocError) -> KeysError {
+    fn from(_refused: AllocError) -> KeysError {
         KeysError::Memory
-    }
-}
-
-impl From<AllocError> for Memory {
-    ghost from_gives = { λ _ _. ⊤ };
-
-    fn from(_failed: AllocError) -> Memory {
-        Memory
     }
 }

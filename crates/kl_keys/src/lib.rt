@@ -6,10 +6,12 @@ mod fault;
 mod hmac;
 mod keys;
 mod mac_keys;
+mod threads;
 
-pub use fault::{KeysError, KeysFault, Memory};
+pub use fault::{KeysError, KeysFault};
 pub use hmac::{hmac256, hmac384};
 pub use keys::Keys;
+pub use kl_base::Memory;
 pub use mac_keys::MacKeys;
 
 #[cfg(test)]

@@ -1,126 +1,54 @@
 use super::*;
+use std::alloc::Global;
 use std::test::*;
+use vectors::VECTORS;
 
-// The values of RFC 4231, test cases 2 and 6.
-const JEFE_256: [u8; 32] = [
-    0x5b, 0xdc, 0xc1, 0x46, 0xbf, 0x60, 0x75, 0x4e, 0x6a, 0x04, 0x24, 0x26, 0x08, 0x95, 0x75, 0xc7,
-    0x5a, 0x00, 0x3f, 0x08, 0x9d, 0x27, 0x39, 0x83, 0x9d, 0xec, 0x58, 0xb9, 0x64, 0xec, 0x38, 0x43,
-];
-
-const JEFE_384: [u8; 48] = [
-    0xaf, 0x45, 0xd2, 0xe3, 0x76, 0x48, 0x40, 0x31, 0x61, 0x7f, 0x78, 0xd2, 0xb5, 0x8a, 0x6b, 0x1b,
-    0x9c, 0x7e, 0xf4, 0x64, 0xf5, 0xa0, 0x1b, 0x47, 0xe4, 0x2e, 0xc3, 0x73, 0x63, 0x22, 0x44, 0x5e,
-    0x8e, 0x22, 0x40, 0xca, 0x5e, 0x69, 0xe2, 0xc7, 0x8b, 0x32, 0x39, 0xec, 0xfa, 0xb2, 0x16, 0x49,
-];
-
-const LONG_KEY_256: [u8; 32] = [
-    0x60, 0xe4, 0x31, 0x59, 0x1e, 0xe0, 0xb6, 0x7f, 0x0d, 0x8a, 0x26, 0xaa, 0xcb, 0xf5, 0xb7, 0x7f,
-    0x8e, 0x0b, 0xc6, 0x21, 0x37, 0x28, 0xc5, 0x14, 0x05, 0x46, 0x04, 0x0f, 0x0e, 0xe3, 0x7f, 0x54,
-];
-
-const LONG_KEY_384: [u8; 48] = [
-    0x4e, 0xce, 0x08, 0x44, 0x85, 0x81, 0x3e, 0x90, 0x88, 0xd2, 0xc6, 0x3a, 0x04, 0x1b, 0xc5, 0xb4,
-    0x4f, 0x9e, 0xf1, 0x01, 0x2a, 0x2b, 0x58, 0x8f, 0x3c, 0xd1, 0x1f, 0x05, 0x03, 0x3a, 0xc4, 0xc6,
-    0x0c, 0x2e, 0xf6, 0xab, 0x40, 0x30, 0xfe, 0x82, 0x96, 0x24, 0x8d, 0xf1, 0x63, 0xf4, 0x49, 0x52,
-];
+mod vectors;
 
 #[test]
-fn hmac_has_the_values_of_rfc_4231(rt: HostRuntime) {
-    let short: (&[u8], &[u8]) = (b"Jefe", b"what do ya want for nothing?");
-    assert_eq!(rt; hmac256(short.0, short.1), JEFE_256);
-    assert_eq!(rt; hmac384(short.0, short.1), JEFE_384);
-    let key = [0xaa; 131];
-    let message = b"Test Using Larger Than Block-Size Key - Hash Key First";
-    assert_eq!(rt; hmac256(&key, message), LONG_KEY_256);
-    assert_eq!(rt; hmac384(&key, message), LONG_KEY_384);
-}
-
-// Under keys of one block, and of one byte more, as Python's hmac gives them.
-const ONE_BLOCK_256: [u8; 32] = [
-    0x19, 0x21, 0x35, 0x83, 0xa4, 0x9b, 0xe8, 0xad, 0x5d, 0xc3, 0x30, 0xed, 0x98, 0x11, 0x80, 0x6a,
-    0x44, 0xab, 0x78, 0x3a, 0x99, 0x47, 0x61, 0x2f, 0xf7, 0x40, 0x4f, 0x29, 0x04, 0x56, 0x54, 0x61,
-];
-
-const OVER_ONE_BLOCK_256: [u8; 32] = [
-    0xf8, 0x09, 0x4d, 0x88, 0x74, 0x5f, 0xc1, 0x1f, 0x69, 0x78, 0x8d, 0x76, 0x96, 0xbb, 0x9c, 0x95,
-    0xe7, 0x24, 0x76, 0x14, 0x71, 0xe0, 0x63, 0xc3, 0xa2, 0x9c, 0xe7, 0xb8, 0x38, 0xcf, 0x1e, 0x1c,
-];
-
-const ONE_BLOCK_384: [u8; 48] = [
-    0x06, 0xb0, 0x58, 0x44, 0xf6, 0xa0, 0xf6, 0x0f, 0xd6, 0x22, 0x96, 0x76, 0x86, 0x49, 0x03, 0xe0,
-    0x5e, 0xd5, 0x76, 0x2a, 0xf4, 0xab, 0x01, 0x57, 0x2f, 0x98, 0x68, 0x85, 0x9b, 0x75, 0xb3, 0xed,
-    0x82, 0xc0, 0x76, 0x7d, 0xcb, 0x17, 0xf0, 0x4d, 0xac, 0x72, 0x8e, 0x68, 0xe2, 0x53, 0xb7, 0xf4,
-];
-
-const OVER_ONE_BLOCK_384: [u8; 48] = [
-    0xf5, 0x6b, 0x1c, 0xcf, 0x91, 0x46, 0xca, 0xf0, 0x42, 0xa6, 0x11, 0x44, 0x1e, 0x6b, 0x65, 0x93,
-    0x18, 0xef, 0x41, 0xce, 0x1f, 0xb8, 0xd4, 0x84, 0x16, 0x61, 0xe1, 0xfc, 0xda, 0xc2, 0x43, 0x21,
-    0x5d, 0x89, 0x8d, 0x59, 0x99, 0x48, 0x27, 0x1d, 0x69, 0xef, 0x56, 0x0f, 0x4d, 0x4c, 0x05, 0x56,
-];
-
-#[test]
-fn a_key_is_hashed_where_it_is_longer_than_a_block(rt: HostRuntime) {
-    let key = [0xaa; 129];
-    assert_eq!(rt; hmac256(&key[..64], b"one block"), ONE_BLOCK_256);
-    assert_eq!(rt; hmac256(&key[..65], b"one block"), OVER_ONE_BLOCK_256);
-    assert_eq!(rt; hmac384(&key[..128], b"one block"), ONE_BLOCK_384);
-    assert_eq!(rt; hmac384(&key, b"one block"), OVER_ONE_BLOCK_384);
-}
-
-// What any keys say of their own signature, and of one whose last byte differs.
-fn own_and_other<Y: Keys>(rt: HostRuntime, keys: &mut Y) -> Result<(bool, bool), Fail> {
-    let mut signature = keys
-        .sign(rt.alloc(), b"key", b"message")
-        .ok()
-        .ok_or("there is a signature")?;
-    let own = keys
-        .verify(b"key", b"message", &signature)
-        .ok()
-        .ok_or("the keys answer")?;
-    if let Some(last) = signature.pop() {
-        signature.push(last ^ 1)?;
+fn hmac_has_the_values_from_outside(rt: HostRuntime) {
+    for vector in &VECTORS {
+        let short = hmac256(vector.key, vector.message) == vector.hmac256;
+        let long = hmac384(vector.key, vector.message) == vector.hmac384;
+        assert!(rt; short && long, "under a key of {} bytes", vector.key.len());
     }
-    let other = keys
-        .verify(b"key", b"message", &signature)
-        .ok()
-        .ok_or("the keys answer")?;
-    Ok((own, other))
+}
+
+/// Whether keys sign, what they say of the signature and of one whose last byte differs, and their faults.
+fn own_and_other<Y: Keys>(
+    alloc: Global,
+    keys: &mut Y,
+    key: &[u8],
+    message: &[u8],
+) -> Result<(bool, Option<bool>, Option<bool>, u64), Memory> {
+    let mut signature = match keys.sign(alloc, key, message) {
+        Ok(signature) => signature,
+        Err(KeysError::Fault) => Vec::new(alloc),
+        Err(KeysError::Memory) => return Err(Memory),
+    };
+    let signs = !signature.is_empty();
+    let own = keys.verify(key, message, &signature).ok();
+    let last = signature.pop().unwrap_or(0);
+    signature.push(last ^ 1)?;
+    let other = keys.verify(key, message, &signature).ok();
+    Ok((signs, own, other, keys.faults()))
 }
 
 #[test]
-fn keys_know_their_signatures(rt: HostRuntime) -> Result<(), Fail> {
-    let mut keys = MacKeys::new(rt.alloc(), &[]).ok().ok_or("memory")?;
-    assert_eq!(rt; own_and_other(rt, &mut keys)?, (true, false));
-    assert_eq!(rt;
-        keys.verify(b"Jefe", b"what do ya want for nothing?", &JEFE_256),
-        Ok(true)
-    );
-    assert_eq!(rt;
-        keys.verify(b"Jefe", b"what do ya want for nothing?", &JEFE_256[..31]),
-        Ok(false)
-    );
-    assert_eq!(rt; keys.faults(), 0);
-    Ok(())
-}
-
-#[test]
-fn listed_calls_fail_and_are_counted(rt: HostRuntime) -> Result<(), Fail> {
-    let mut keys = MacKeys::new(rt.alloc(), &[2, 3]).ok().ok_or("memory")?;
-    assert_eq!(rt; keys.verify(b"k", b"m", b""), Ok(false));
-    assert_eq!(rt; keys.faults(), 0);
-    assert!(rt; matches!(keys.sign(rt.alloc(), b"k", b"m"), Err(KeysError::Fault)));
-    assert_eq!(rt; keys.faults(), 1);
-    assert_eq!(rt; keys.verify(b"k", b"m", b""), Err(KeysFault));
-    assert_eq!(rt; keys.faults(), 2);
-    assert_eq!(rt; keys.verify(b"k", b"m", b""), Ok(false));
-    assert_eq!(rt; keys.faults(), 2);
-    Ok(())
-}
-
-fn shared<T: Sync + Send>(_value: &T) {}
-
-#[test]
-fn threads_may_share_keys(rt: HostRuntime) -> Result<(), Fail> {
-    shared(&MacKeys::new(rt.alloc(), &[]).ok().ok_or("memory")?);
+fn keys_know_their_signatures_and_fail_at_listed_calls(rt: HostRuntime) -> Result<(), Fail> {
+    let known = (true, Some(true), Some(false), 0);
+    let long = [7u8; 5000];
+    let late = [9u64; 300];
+    let cases: [(&[u64], &[u8], (bool, Option<bool>, Option<bool>, u64)); 4] = [
+        (&[], b"", known),
+        (&late, &long, known),
+        (&[1], b"quote", (false, Some(false), Some(false), 1)),
+        (&[2, 3], b"quote", (true, None, None, 2)),
+    ];
+    for (listed, message, answers) in cases {
+        let mut keys = MacKeys::new(rt.alloc(), listed)?;
+        let given = own_and_other(rt.alloc(), &mut keys, b"key", message)?;
+        assert!(rt; given == answers, "of {} bytes", message.len());
+    }
     Ok(())
 }

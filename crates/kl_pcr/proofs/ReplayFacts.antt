@@ -1,38 +1,12 @@
 -- Laws of a replay.
-use Rattle.std.proofs.Common.{◌≡◌, ℕ, true, false, if◌then◌else◌, List, [], ◌∷◌, ◌++◌, length, map, reverse, refl, sym, ap, ◌∙◌}
-use Rattle.std.proofs.lemmas.List.{length-replicate, map-append, reverse-append, reverse-reverse}
+use Rattle.std.proofs.Common.{◌≡◌, ℕ, List, [], ◌∷◌, ◌++◌, map, reverse, refl, sym, ap, ◌∙◌}
+use Rattle.std.proofs.lemmas.List.{map-append, reverse-append, reverse-reverse}
 use Rattle.std.proofs.lemmas.List.Sums.{fold_push, fold-append}
 use Rattle.kl_bank.specs.declared.bank.Bank.{Bank}
-use Rattle.kl_bank.specs.Banks.{extended, hash_of, ones_of, size_of, zeros_of}
-use Rattle.kl_bank.proofs.Lengths.{length-hash_of}
-use Rattle.kl_entry.specs.Entries.{EntryFields, data_of, is_violation}
+use Rattle.kl_bank.specs.Banks.{extended, zeros_of}
+use Rattle.kl_entry.specs.Entries.{EntryFields}
 use Rattle.kl_pcr.specs.Measured.{measured_of}
 use Rattle.kl_pcr.specs.Replay.{folded, replay_back, replay_of}
-
--- ---- sizes
-
--- an extended PCR has the bank's size
-pub length-extended : (bank : Bank) (old added : List ℕ) → length (extended bank old added) ≡ size_of bank
-length-extended bank old added = length-hash_of bank (old ++ added)
-
--- so has what an entry is measured as
-pub length-measured_of : (bank : Bank) (e : EntryFields) → length (measured_of bank e) ≡ size_of bank
-length-measured_of bank e =
-    elim (is_violation e) as (λ v. length (if v then ones_of bank else hash_of bank (data_of e)) ≡ size_of bank) [
-      | true ↦ length-replicate (size_of bank) 0xFF
-      | false ↦ length-hash_of bank (data_of e)
-    ]
-
-length-replay_back : (bank : Bank) (entries : List EntryFields) → length (replay_back bank entries) ≡ size_of bank
-unfolding replay_back
-length-replay_back bank [] = length-replicate (size_of bank) 0
-length-replay_back bank (e ∷ earlier) = length-extended bank (replay_back bank earlier) (measured_of bank e)
-
--- and what a list replays to
-pub length-replay_of : (bank : Bank) (entries : List EntryFields) → length (replay_of bank entries) ≡ size_of bank
-length-replay_of bank entries = length-replay_back bank (reverse entries)
-
--- ---- the last entry, and what comes after a list
 
 -- no entry leaves zeros
 pub replay_of-nil : (bank : Bank) → replay_of bank [] ≡ zeros_of bank

@@ -3,7 +3,7 @@ use Rattle.std.proofs.Common.{◌≡◌, ℕ, zero, suc, ◌+◌, ◌-◌, ◌*�
 use Rattle.std.specs.Int.{bit_at}
 use Rattle.std.specs.List.{range_with_len, flat_map}
 use Rattle.std.proofs.lemmas.Nat.{pow_pos, mod-pow-add}
-use Rattle.std.proofs.Math.Nat.{mod-lt, mod-eq_of_lt}
+use Rattle.std.proofs.Math.Nat.{mod-lt}
 use Rattle.std.proofs.Math.Seq.{take-append_seam, drop-append_seam}
 use Rattle.std.proofs.lemmas.List.Elements.{filter-append}
 use Rattle.std.proofs.lemmas.List.Concat.{flat_map-append}
@@ -64,11 +64,6 @@ length-pcrs_below mask (suc n) =
     ap length more ∙ length-append front (cond (sel n) (n ∷ []) [])
     ∙ omega (arith, last, length-pcrs_below mask n, lower_of-suc mask n)
 
--- a mask has as many PCRs as bits
-pub length-pcrs_of : (mask : ℕ) → mask < 2 ^ 32 → length (pcrs_of mask) ≡ count_ones mask
-unfolding pcrs_of
-length-pcrs_of mask small = length-pcrs_below mask 32 ∙ ap count_ones (mod-eq_of_lt small)
-
 -- ---- values in the order of their PCRs
 
 -- the PCRs of the mask that come after PCR n
@@ -94,13 +89,7 @@ length-flat_map_even f size even [] = omega arith
 length-flat_map_even f size even (n ∷ ns) =
     length-append (f n) (flat_map f ns) ∙ omega (arith, even n, length-flat_map_even f size even ns)
 
--- the values of a mask's PCRs have the length that a quote's values are to have
-pub length-values : (bank : Bank) (mask : ℕ) (f : ℕ → List ℕ) → ((k : ℕ) → length (f k) ≡ size_of bank) → mask < 2 ^ 32
-    → length (flat_map f (pcrs_of mask)) ≡ size_of bank * count_ones mask
-length-values bank mask f even small =
-    length-flat_map_even f (size_of bank) even (pcrs_of mask) ∙ ap (λ k. size_of bank * k) (length-pcrs_of mask small)
-
--- and the value of each PCR of the mask is found in them
+-- the value of each PCR of the mask is found in the values of its PCRs
 pub value_at-flat_map : (bank : Bank) (mask : ℕ) (f : ℕ → List ℕ) → ((k : ℕ) → length (f k) ≡ size_of bank)
     → (n : ℕ) → n < 32 → IsSelected mask n → value_at bank mask (flat_map f (pcrs_of mask)) n ≡ f n
 value_at-flat_map bank mask f even n below selected =

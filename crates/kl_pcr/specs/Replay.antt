@@ -10,7 +10,8 @@ unfoldable pub replay_back : Bank → List EntryFields → List ℕ
 replay_back bank [] = zeros_of bank
 replay_back bank (last ∷ earlier) = extended bank (replay_back bank earlier) (measured_of bank last)
 
--- zeros after no entry, and else the last entry extended into what the others left
+-- Zeros after no entry, the value from which this project takes PCR 10 to start, and else the last entry extended into what
+-- the others left.
 abbrev pub replay_of : Bank → List EntryFields → List ℕ
 replay_of bank entries = replay_back bank (reverse entries)
 

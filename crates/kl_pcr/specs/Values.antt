@@ -38,10 +38,12 @@ lower_of mask n = count_ones (mask % 2 ^ n)
 abbrev pub value_at : Bank → ℕ → List ℕ → ℕ → List ℕ
 value_at bank mask values n = take (size_of bank) (drop (size_of bank * lower_of mask n) values)
 
--- what a quote signs in place of the values
+-- What a quote signs in place of the values: their SHA-256 in every bank, which is this project's choice (a TPM takes the
+-- hash of its signing scheme).
 abbrev pub pcr_digest_of : List ℕ → List ℕ
 pcr_digest_of values = sha256 values
 
--- a PCR after a reset into which the hash of a public key's text was extended
+-- How an agent's public key is bound to PCR 16, by a rule of this project's own: the hash of the key's text is extended
+-- into zeros, the value that PCR 16 is taken to have after a reset.
 abbrev pub binding_of : Bank → List ℕ → List ℕ
 binding_of bank key = extended bank (zeros_of bank) (hash_of bank key)

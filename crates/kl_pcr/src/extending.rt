@@ -1,13 +1,13 @@
 //! What is extended into a PCR, and the value that comes of it.
 ghost use Rattle.std.specs.Prelude.{◌≡◌, ◌+◌, List, ◌++◌, length, map, All};
-ghost use Rattle.kl_bank.specs.Banks.{hash_of, ones_of, size_of};
+ghost use Rattle.kl_bank.specs.Banks.{ones_of, size_of};
 ghost use Rattle.kl_entry.specs.Entries.{EntryFields, data_of};
 ghost use Rattle.kl_pcr.specs.Measured.{measured_of};
 ghost use Rattle.kl_pcr.specs.Replay.{folded, replay_of};
 ghost use Rattle.kl_pcr.specs.Values.{binding_of};
 
 use crate::counting::Steps;
-use kl_bank::{Bank, Digest, Hasher};
+use kl_bank::{Bank, Digest};
 use kl_entry::{Entry, EntryData, violation};
 use std::sync::ledger::Ledger;
 
@@ -18,16 +18,10 @@ pub fn measured<L: Ledger>(bank: Bank, entry: &Entry<'_>, steps: &mut Steps<L>) 
     ensures sized { length result ≡ size_of bank }
     ensures cost { steps.new ≡ steps.old + 1 }
 {
-    steps.tick();
-    if violation(entry) {
-        violation_digest(bank)
-    } else {
-        hash_data(bank, entry)
-    }
+    measured_with(bank, entry, &EntryData::of(entry), steps)
 }
 
-/// What [`measured`] gives, of an entry whose template data is laid out already, which is then
-/// hashed in one piece. One call is one step.
+/// What [`measured`] gives, of an entry whose template data is laid out already. One call is one step.
 pub fn measured_with<L: Ledger>(
     bank: Bank,
     entry: &Entry<'_>,
@@ -55,27 +49,6 @@ fn violation_digest(bank: Bank) -> Digest
     bank.ones()
 }
 
-/// The digest of the entry's template data, hashed piece by piece.
-fn hash_data(bank: Bank, entry: &Entry<'_>) -> Digest
-    ensures value { result ≡ hash_of bank (data_of entry.now) }
-    ensures sized { length result ≡ size_of bank }
-{
-    let alg = entry.alg().as_bytes();
-    let digest = entry.digest().as_slice();
-    let path = entry.path().as_bytes();
-    let digest_len = (alg.len() + 2 + digest.len()) as u32;
-    let path_len = (path.len() + 1) as u32;
-    let mut hasher = Hasher::new(bank);
-    hasher.update(&digest_len.to_le_bytes());
-    hasher.update(alg);
-    hasher.update(b":\0");
-    hasher.update(digest);
-    hasher.update(&path_len.to_le_bytes());
-    hasher.update(path);
-    hasher.update(b"\0");
-    hasher.finish()
-}
-
 /// The value of a PCR that held `start`, after it was extended by these digests in order.
 pub fn replay(bank: Bank, start: &Digest, with: &[Digest]) -> Digest
     requires start { length start.now ≡ size_of bank }
@@ -92,7 +65,8 @@ pub fn replay(bank: Bank, start: &Digest, with: &[Digest]) -> Digest
     held
 }
 
-/// The value of a PCR after a reset into which the hash of this public key's text was extended.
+/// The value of a PCR of zeros into which the hash of this public key's text was extended, by which an
+/// agent binds its key to PCR 16. No standard has this binding.
 pub fn binding(bank: Bank, public: &[u8]) -> Digest
     ensures value { result ≡ binding_of bank public.now }
     ensures sized { length result ≡ size_of bank }

@@ -4,6 +4,7 @@
 
 mod counting;
 mod extending;
+mod listed;
 mod quoted;
 mod statics;
 #[cfg(test)]
@@ -11,5 +12,6 @@ mod tests;
 
 pub use counting::Steps;
 pub use extending::{binding, measured, measured_with, replay};
+pub use listed::Listed;
 pub use quoted::{pcr_digest, value};
 pub use statics::{Digests, Static, Statics, first_wrong, statics_ok};

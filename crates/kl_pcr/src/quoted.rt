@@ -7,7 +7,8 @@ use kl_bank::{Bank, Digest};
 use sha2::{Digest as _, Sha256};
 
 /// The digest that a quote signs in place of the PCR values, which are concatenated in ascending
-/// order of their PCRs (`pcrDigest` of TPMS_QUOTE_INFO, TPM 2.0 Library, Part 2, section 10.12).
+/// order of their PCRs (`pcrDigest` of TPMS_QUOTE_INFO, TPM 2.0 Library, Part 2, section 10.12). That it
+/// is their SHA-256 in every bank is this project's choice: a TPM takes the hash of its signing scheme.
 pub fn pcr_digest(values: &[u8]) -> [u8; 32]
     ensures { result ≡ pcr_digest_of values.now }
 {

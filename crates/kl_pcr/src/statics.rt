@@ -1,43 +1,16 @@
 //! PCRs whose values are fixed once the machine has booted.
-ghost use Rattle.std.specs.Prelude.{◌≡◌, ◌≢◌, ◌*◌, ◌↔◌, IsTrue, length, count_ones, min, All, Any, AllPairs, Contains};
+ghost use Rattle.std.specs.Prelude.{◌≡◌, ◌≢◌, ◌≤◌, ◌*◌, ◌↔◌, IsTrue, length, take, count_ones, min, All, Any, AllPairs, Contains};
 ghost use Rattle.std.specs.Option.{option_map_or};
 ghost use Rattle.kl_bank.specs.Banks.{size_of};
 ghost use Rattle.kl_pcr.specs.Values.{IsSelected};
 ghost use Rattle.kl_pcr.specs.Statics.{AreStatics, IsAllowed, IsFirstWrong, IsStatic};
 
+use crate::listed::Listed;
 use crate::quoted::{selects, value};
 use kl_bank::{Bank, Digest};
-use std::marker::Model;
 
-/// The digests that a PCR may have. A contract sees the list of their bytes.
-#[derive(Debug, Drop)]
-pub struct Digests {
-    digests: Vec<Digest>,
-}
-
-impl Model for Digests {
-    ghost use Rattle.std.specs.Prelude.{List, ℕ};
-
-    ghost Value = { List (List ℕ) };
-
-    ghost view = { λ d. d.digests.items };
-}
-
-impl Digests {
-    /// These digests.
-    pub fn new(digests: Vec<Digest>) -> Digests
-        ensures { result ≡ digests.items }
-    {
-        Digests { digests }
-    }
-
-    /// The digests, in order.
-    pub fn as_slice(&self) -> &[Digest]
-        ensures { result.now ≡ self.now }
-    {
-        &self.digests
-    }
-}
+/// The digests that a PCR may have.
+pub type Digests = Listed<Digest>;
 
 /// A PCR and the values that it may have.
 #[derive(Debug, Drop)]
@@ -46,43 +19,8 @@ pub struct Static {
     pub allowed: Digests,
 }
 
-/// Some PCRs and the values that they may have. A contract sees the list.
-#[derive(Debug, Drop)]
-pub struct Statics {
-    statics: Vec<Static>,
-}
-
-impl Model for Statics {
-    ghost use Rattle.std.specs.Prelude.{List};
-    ghost use Rattle.kl_pcr.specs.declared.statics.Static.{Static};
-
-    ghost Value = { List Static };
-
-    ghost view = { λ s. s.statics.items };
-}
-
-impl Statics {
-    /// These PCRs.
-    pub fn new(statics: Vec<Static>) -> Statics
-        ensures { result ≡ statics.items }
-    {
-        Statics { statics }
-    }
-
-    /// The PCRs, in order.
-    pub fn as_slice(&self) -> &[Static]
-        ensures { result.now ≡ self.now }
-    {
-        &self.statics
-    }
-
-    /// The PCRs, as a `Vec`.
-    pub fn into_vec(self) -> Vec<Static>
-        ensures { result.items ≡ self }
-    {
-        self.statics
-    }
-}
+/// Some PCRs and the values that they may have.
+pub type Statics = Listed<Static>;
 
 /// Whether each names a PCR of the mask that is neither 10 nor 16, each names another, and each
 /// allows at least one digest, and digests of the bank's size alone.
@@ -114,17 +52,19 @@ fn stand_once(statics: &[Static]) -> bool
     ensures { IsTrue result ↔ AllPairs (λ s t. s.pcr ≢ t.pcr) statics.now }
 {
     for (i, item) in statics.iter().enumerate() {
-        if names(&statics[..i], item.pcr) {
+        if stand_before(statics, i, item.pcr) {
             return false;
         }
     }
     true
 }
 
-fn names(statics: &[Static], pcr: u8) -> bool
-    ensures { IsTrue result ↔ Any (λ s. s.pcr ≡ pcr) statics.now }
+/// Whether one of the first, so many, names this PCR.
+fn stand_before(statics: &[Static], count: usize, pcr: u8) -> bool
+    requires { count ≤ length statics.now }
+    ensures { IsTrue result ↔ Any (λ s. s.pcr ≡ pcr) (take count statics.now) }
 {
-    statics.iter().any(|item| item.pcr == pcr)
+    statics[..count].iter().any(|item| item.pcr == pcr)
 }
 
 /// The least PCR whose value is none of those that are allowed, or None where all values are

@@ -1,41 +1,12 @@
--- The values of digits by a table, and digits that are decoded pair by pair.
+-- Digits that are decoded pair by pair.
 use Rattle.std.proofs.Common.{◌≡◌, ◌≢◌, ℕ, ◌+◌, ◌*◌, ◌/◌, ◌%◌, ◌<◌, ◌≤◌, Bool, true, cond, Option, Some, None, Result, Ok, Err, List, [], ◌∷◌, ◌++◌, length, take, get_or, refl, sym, ap, subst, ◌∙◌, arith, leb, nat_eq, append_assoc, IfNone}
 use Rattle.std.proofs.Math.ListN.{set}
-use Rattle.std.proofs.lemmas.Bool.{le-leb, lt-leb}
-use Rattle.std.proofs.lemmas.Bool.Decides.{Decides-eqb}
-use Rattle.std.proofs.lemmas.List.{take_more, take_more_set, take_all}
-use Rattle.std.proofs.lemmas.List.FromFn.{get_or-range_with_len}
-use Rattle.std.proofs.lemmas.List.Sums.{AllPass-from_list_all}
-use Rattle.std.specs.Option.{option_eq, is_some}
-use Rattle.std.specs.List.{list_all, range_with_len}
+use Rattle.std.proofs.lemmas.List.{take_more, take_more_set}
+use Rattle.std.specs.Option.{is_some}
 use Rattle.std.specs.Result.{result_unwrap_or}
 use Rattle.hex.specs.Hex.{decode_of, decode_pairs, pair_value, hex_digit_value, ◌>>=◌}
 use Rattle.hex.proofs.HexLemmas.{decode_of-ok, decode_of-even}
 use Rattle.hex.specs.declared.error.FromHexError.{FromHexError}
-use Rattle.kl_policy.specs.declared.digits.TheConstants.{VALUES}
-
--- what the table says of a byte
-abbrev pub value_by : List ℕ → ℕ → Option ℕ
-value_by table b = cond (leb (get_or table b 0) 15) (Some (get_or table b 0)) None
-
-abbrev pub agrees_at : ℕ → Bool
-agrees_at b = option_eq nat_eq (hex_digit_value b) (value_by VALUES b)
-
-agrees : list_all agrees_at (range_with_len 0 256) ≡ true
-agrees = refl
-
-same_option : (a b : Option ℕ) → option_eq nat_eq a b ≡ true → a ≡ b
-same_option None None h = refl
-same_option None (Some y) h = cc h
-same_option (Some x) None h = cc h
-same_option (Some x) (Some y) h = ap Some ((Decides-eqb x y).0 h)
-
--- the table has the value of each digit
-pub value_is : (b : ℕ) → b < 256 → hex_digit_value b ≡ value_by VALUES b
-value_is b small =
-    let at : agrees_at (get_or (range_with_len 0 256) b 0) ≡ true = AllPass-from_list_all agrees_at (range_with_len 0 256) agrees b 0 small in
-    let there : get_or (range_with_len 0 256) b 0 ≡ b = get_or-range_with_len 0 256 b 0 small ∙ omega arith in
-    same_option (hex_digit_value b) (value_by VALUES b) (subst (λ c. agrees_at c ≡ true) there at)
 
 bind_ok : {A B : Type 0} (r : Result A FromHexError) (f : A → Result B FromHexError) (y : B) → (r >>= f) ≡ Ok y → (x : A) × (r ≡ Ok x) × (f x ≡ Ok y)
 bind_ok (Ok x) f y h = (x, refl, h)
@@ -82,23 +53,9 @@ decoded_more digits room i a b inside fits h p q =
     ∙ decoded_push 0 (take (2 * i) digits) (take i room) (get_or digits (2 * i) 0) (get_or digits (2 * i + 1) 0) a b h p q
     ∙ ap Ok (sym (take_more_set room i (a * 16 + b) fits))
 
--- all
-pub decoded_all : (digits room : List ℕ) (i : ℕ) → length digits % 2 ≡ 0 → i ≡ length digits / 2 → IsDecoded digits room i
-    → decode_of digits ≡ Ok (take i room)
-decoded_all digits room i even half h =
-    decode_of-even digits even ∙ ap (decode_pairs 0) (sym (take_all (2 * i) digits (omega arith))) ∙ h
-
 -- digits that decode have each a value
 pub no_digit : (digits digest : List ℕ) (k : ℕ) → k < length digits → hex_digit_value (get_or digits k 0) ≡ None → decode_of digits ≢ Ok digest
 no_digit digits digest k inside none h = cc (sym ((decode_of-ok digits digest h).1 k 0 inside) ∙ ap is_some none)
-
--- a digit by the table
-pub digit_by : (b : ℕ) → b < 256 → get_or VALUES b 0 ≤ 15 → Some (get_or VALUES b 0) ≡ hex_digit_value b
-digit_by b small low = sym (value_is b small ∙ ap (λ t. cond t (Some (get_or VALUES b 0)) None) (le-leb (get_or VALUES b 0) 15 low))
-
--- and a byte that is none
-pub none_by : (b : ℕ) → b < 256 → 15 < get_or VALUES b 0 → None ≡ hex_digit_value b
-none_by b small high = sym (value_is b small ∙ ap (λ t. cond t (Some (get_or VALUES b 0)) None) (lt-leb (get_or VALUES b 0) 15 high))
 
 -- the first return of a `?` on a digit
 pub no_digit_at : {T : Type 0} (o : Option T) (digits : List ℕ) (k : ℕ) → k < length digits → None ≡ hex_digit_value (get_or digits k 0)

@@ -5,13 +5,14 @@ use Rattle.std.proofs.lemmas.Map.Text.{is_eq-slice_cmp}
 use Rattle.std.proofs.lemmas.Slice.Eq.{bytes_eq-Decides}
 use Rattle.std.specs.Cmp.Lexicographic.{slice_cmp, nat_list_cmp_total}
 use Rattle.std.specs.FinMap as finite_map
-use Rattle.std.specs.FinMap.{get-insert, get-empty}
+use Rattle.std.specs.FinMap.{get-insert, get-empty, slice_cmp-IsAntisymmetric, nat_cmp-IsAntisymmetric}
+use Rattle.std.specs.FinSet as finite_set
 use Rattle.std.specs.List.{AllZip}
 use Rattle.std.specs.Ordering.{nat_cmp, eq_by_cmp}
 use Rattle.std.specs.Str.{bytes_eq}
 use Rattle.kl_entry.specs.Lines.{lines_of, onto_first}
-use Rattle.kl_policy.specs.Digests.{DigestMap, digests_at, if_any, Collects}
-use Rattle.kl_policy.specs.Flat.{FlatLine, GivesPair, is_written, written, AreListed, LinesCollect, IsGoodLine, IsFirstBadLine}
+use Rattle.kl_policy.specs.Digests.{DigestMap, digests_at, set_of, Collects}
+use Rattle.kl_policy.specs.Flat.{FlatLine, GivesPair, is_written, written, AreListed, LinesCollect, IsGoodLine, BreaksAt}
 
 -- an empty map collects nothing
 pub collect_none : LinesCollect [] finite_map.empty
@@ -42,29 +43,29 @@ digests_at_push q (p ∷ pairs) path digest =
       | false ↦ digests_at_push q pairs path digest
     ]
 
-if_any_push : (ds : List (List ℕ)) (digest : List ℕ) → Some (unwrap_or (if_any ds) [] ++ digest ∷ []) ≡ if_any (ds ++ digest ∷ [])
-if_any_push [] digest = refl
-if_any_push (d ∷ ds) digest = refl
+set_of_push : (ds : List (List ℕ)) (digest : List ℕ) → Some (finite_set.insert (unwrap_or (set_of ds) finite_set.empty) digest) ≡ set_of (ds ++ digest ∷ [])
+set_of_push [] digest = refl
+set_of_push (d ∷ ds) digest = ap Some (sym (finite_set.from_list_push nat_list_cmp_total (slice_cmp-IsAntisymmetric nat_cmp-IsAntisymmetric) (d ∷ ds) digest))
 
 -- a pair more in the list is a digest more in the map
 pub collects_push : (pairs : List (List ℕ × List ℕ)) (digests : DigestMap) (path digest : List ℕ) → Collects pairs digests
-    → Collects (pairs ++ (path, digest) ∷ []) (finite_map.insert digests path (unwrap_or (finite_map.get digests path) [] ++ digest ∷ []))
+    → Collects (pairs ++ (path, digest) ∷ []) (finite_map.insert digests path (finite_set.insert (unwrap_or (finite_map.get digests path) finite_set.empty) digest))
 collects_push pairs digests path digest h = λ q.
-    let put = get-insert nat_list_cmp_total digests path (unwrap_or (finite_map.get digests path) [] ++ digest ∷ []) q in
+    let put = get-insert nat_list_cmp_total digests path (finite_set.insert (unwrap_or (finite_map.get digests path) finite_set.empty) digest) q in
     let same : eq_by_cmp (slice_cmp nat_cmp) q path ≡ bytes_eq q path = is_eq-slice_cmp q path in
     put
-    ∙ ap (λ b. cond b (Some (unwrap_or (finite_map.get digests path) [] ++ digest ∷ [])) (finite_map.get digests q)) same
+    ∙ ap (λ b. cond b (Some (finite_set.insert (unwrap_or (finite_map.get digests path) finite_set.empty) digest)) (finite_map.get digests q)) same
     ∙ at_key q (bytes_eq q path) refl
-    ∙ ap if_any (sym (digests_at_push q pairs path digest))
+    ∙ ap set_of (sym (digests_at_push q pairs path digest))
   where
     at_key : (q : List ℕ) (b : Bool) → bytes_eq q path ≡ b
-        → cond b (Some (unwrap_or (finite_map.get digests path) [] ++ digest ∷ [])) (finite_map.get digests q) ≡ if_any (digests_at q pairs ++ cond b (digest ∷ []) [])
+        → cond b (Some (finite_set.insert (unwrap_or (finite_map.get digests path) finite_set.empty) digest)) (finite_map.get digests q) ≡ set_of (digests_at q pairs ++ cond b (digest ∷ []) [])
     at_key q true e =
         let key : q ≡ path = (bytes_eq-Decides q path).0 e in
-        ap (λ known. Some (unwrap_or known [] ++ digest ∷ [])) (h path)
-        ∙ if_any_push (digests_at path pairs) digest
-        ∙ ap (λ k. if_any (digests_at k pairs ++ digest ∷ [])) (sym key)
-    at_key q false e = h q ∙ ap if_any (sym (append-nil (digests_at q pairs)))
+        ap (λ known. Some (finite_set.insert (unwrap_or known finite_set.empty) digest)) (h path)
+        ∙ set_of_push (digests_at path pairs) digest
+        ∙ ap (λ k. set_of (digests_at k pairs ++ digest ∷ [])) (sym key)
+    at_key q false e = h q ∙ ap set_of (sym (append-nil (digests_at q pairs)))
 
 all_zip_push : {A B : Type 0} (R : A → B → Type 0) (xs : List A) (ys : List B) (x : A) (y : B) → AllZip R xs ys → R x y → AllZip R (xs ++ x ∷ []) (ys ++ y ∷ [])
 all_zip_push R [] [] x y h r = (r, tt)
@@ -74,7 +75,7 @@ all_zip_push R (a ∷ xs) (b ∷ ys) x y h r = (h.0, all_zip_push R xs ys x y h.
 
 -- a line of a digest and a path
 pub collect_line : (lines : List (List ℕ)) (line digest path : List ℕ) (digests : DigestMap) → 0 < length line → FlatLine line digest path
-    → LinesCollect lines digests → LinesCollect (lines ++ line ∷ []) (finite_map.insert digests path (unwrap_or (finite_map.get digests path) [] ++ digest ∷ []))
+    → LinesCollect lines digests → LinesCollect (lines ++ line ∷ []) (finite_map.insert digests path (finite_set.insert (unwrap_or (finite_map.get digests path) finite_set.empty) digest))
 collect_line lines [] digest path digests some f h = absurd (omega arith)
 collect_line lines (b ∷ bs) digest path digests some f h =
     let pair : List ℕ × List ℕ = (path, digest) in
@@ -107,7 +108,7 @@ length-lines_of (b ∷ bs) =
 -- the first line that is not good, behind lines that are
 pub first_bad_line : (text : List ℕ) (before : List (List ℕ)) (line : List ℕ) (after : List (List ℕ)) (digests : DigestMap) (place : ℕ)
     → before ++ line ∷ after ≡ lines_of text → length before ≡ place → LinesCollect before digests
-    → 0 < length line → ((digest path : List ℕ) → ¬ (FlatLine line digest path)) → IsFirstBadLine (lines_of text) place
+    → 0 < length line → ((digest path : List ℕ) → ¬ (FlatLine line digest path)) → BreaksAt (lines_of text) place
 first_bad_line text before line after digests place cut counted h some none = record {
   before = before;
   line = line;
@@ -115,7 +116,7 @@ first_bad_line text before line after digests place cut counted h some none = re
   cut = sym cut;
   counted = counted;
   good = good_lines before h.0 h.1;
-  bad = λ good. elim good [
+  fails = λ good. elim good [
     | inl empty ↦ let no : length line ≡ 0 = ap length empty in omega arith
     | inr found ↦ none found.0 found.1 found.2
   ];

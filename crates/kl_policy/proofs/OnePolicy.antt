@@ -8,10 +8,10 @@ use Rattle.std.specs.FinMap.{same_map, slice_cmp-IsAntisymmetric, nat_cmp-IsAnti
 use Rattle.hex.specs.Hex.{decode_of}
 use Rattle.hex.proofs.HexLemmas.{decode_of-same}
 use Rattle.kl_entry.specs.Lines.{lines_of}
-use Rattle.kl_entry.proofs.FirstFailing.{one_place}
+use Rattle.kl_entry.proofs.FirstFailing.{one_failing}
 use Rattle.kl_policy.specs.Digests.{DigestMap, Collects}
 use Rattle.kl_policy.specs.PolicyFields.{PolicyFields}
-use Rattle.kl_policy.specs.Flat.{FlatLine, AreListed, ListsDigests, IsGoodLine, IsFirstBadLine, IsFlatFault, IsReadAs, IsRefusedAt}
+use Rattle.kl_policy.specs.Flat.{FlatLine, AreListed, ListsDigests, IsGoodLine, BreaksAt, IsFlatFault, IsReadAs, IsRefusedAt}
 use Rattle.kl_policy.specs.declared.fault.Limit.TheVariants.{Paths, Patterns, PatternBytes}
 use Rattle.kl_policy.specs.declared.fault.PolicyFault.{PolicyFault}
 use Rattle.kl_policy.specs.declared.fault.PolicyFault.TheVariants.{Line, Limit as Over, Memory}
@@ -74,15 +74,14 @@ digests_same text m n h k =
     same_map nat_list_cmp_total (slice_cmp-IsAntisymmetric nat_cmp-IsAntisymmetric) m n (λ path. at path ∙ sym (k.2 path))
 
 -- one line is the first bad one
-pub one_bad_line : (lines : List (List ℕ)) (p q : ℕ) → IsFirstBadLine lines p → IsFirstBadLine lines q → p ≡ q
-one_bad_line lines p q f g =
-    sym f.counted ∙ one_place IsGoodLine f.before f.after g.before g.after f.line g.line (sym f.cut ∙ g.cut) f.good g.good f.bad g.bad ∙ g.counted
+pub one_bad_line : (lines : List (List ℕ)) (p q : ℕ) → BreaksAt lines p → BreaksAt lines q → p ≡ q
+one_bad_line lines p q f g = one_failing IsGoodLine (λ line. ¬ (IsGoodLine line)) (λ line. ¬ (IsGoodLine line)) (λ line bad. bad) (λ line bad. bad) lines p q f g
 
 -- a text with a bad line lists none
-pub no_digests : (text : List ℕ) (place : ℕ) (m : DigestMap) → IsFirstBadLine (lines_of text) place → ListsDigests text m → ⊥
+pub no_digests : (text : List ℕ) (place : ℕ) (m : DigestMap) → BreaksAt (lines_of text) place → ListsDigests text m → ⊥
 no_digests text place m fault h =
     let good : All IsGoodLine (fault.before ++ fault.line ∷ fault.after) = subst (All IsGoodLine) fault.cut (good_lines (lines_of text) h.0 h.1) in
-    fault.bad (subst IsGoodLine (get_or-append_seam fault.before fault.line fault.after fault.line) (good (length fault.before) fault.line (omega (arith, length-append fault.before (fault.line ∷ fault.after)))))
+    fault.fails (subst IsGoodLine (get_or-append_seam fault.before fault.line fault.after fault.line) (good (length fault.before) fault.line (omega (arith, length-append fault.before (fault.line ∷ fault.after)))))
 
 -- a fault of a text that lists digests is that they have too many paths, or want of memory
 faulted : (text : List ℕ) (fault : PolicyFault) → IsFlatFault text fault → (digests : DigestMap) → ListsDigests text digests → IsReadAs (Err fault) digests
@@ -100,7 +99,7 @@ read_as text (Err e) found fault digests k = faulted text e fault digests k
 
 -- and a text with a bad line is refused for the first one
 pub refused_at : (text : List ℕ) (r : Result PolicyFields PolicyFault) → IfOk r (λ policy. ListsDigests text policy.digests) → IfErr r (λ fault. IsFlatFault text fault)
-    → (place : ℕ) → IsFirstBadLine (lines_of text) place → IsRefusedAt r place
+    → (place : ℕ) → BreaksAt (lines_of text) place → IsRefusedAt r place
 refused_at text (Ok policy) found fault place bad = no_digests text place policy.digests bad found
 refused_at text (Err (Line other)) found fault place bad = one_bad_line (lines_of text) other place fault bad
 refused_at text (Err (Over Paths)) found fault place bad = no_digests text place fault.0 bad fault.1

@@ -1,9 +1,11 @@
--- The flat allowlist: a line is a digest in hexadecimal digits, two spaces and a path, as `sha256sum` writes them.
+-- The flat allowlist: a line is a digest in hexadecimal digits, two spaces and a path, as `sha256sum` writes them in text
+-- mode. Its lines in binary mode, with a space and a `*` before the path, and those of an escaped path, which begin with a
+-- backslash, are no such lines.
 use Rattle.std.specs.Prelude.{◌≡◌, ℕ, ◌<◌, ◌≤◌, ◌++◌, ◌⊎◌, List, [], ◌∷◌, length, filter, Bool, true, false, All, codes, Result, Ok, Err, ⊤}
 use Rattle.std.specs.FinMap as finite_map
 use Rattle.std.specs.List.{AllZip}
 use Rattle.hex.specs.Hex.{decode_of}
-use Rattle.kl_entry.specs.Lines.{lines_of}
+use Rattle.kl_entry.specs.Lines.{lines_of, IsFirstFailing}
 use Rattle.kl_policy.specs.Digests.{DigestMap, Collects}
 use Rattle.kl_policy.specs.PolicyFields.{PolicyFields}
 use Rattle.kl_policy.specs.declared.fault.Limit.TheVariants.{Paths, Patterns, PatternBytes}
@@ -37,9 +39,6 @@ written lines = filter is_written lines
 abbrev pub AreListed : List (List ℕ) → List (List ℕ × List ℕ) → Type 0
 AreListed lines pairs = AllZip GivesPair (written lines) pairs
 
-abbrev pub IsListed : List ℕ → List (List ℕ × List ℕ) → Type 0
-IsListed text pairs = AreListed (lines_of text) pairs
-
 -- the digests that these lines list, by their paths: those of a repeated path are added up
 abbrev pub LinesCollect : List (List ℕ) → DigestMap → Type 0
 LinesCollect lines digests = (pairs : List (List ℕ × List ℕ)) × AreListed lines pairs × Collects pairs digests
@@ -51,19 +50,13 @@ ListsDigests text digests = LinesCollect (lines_of text) digests
 abbrev pub IsGoodLine : List ℕ → Type 0
 IsGoodLine line = (line ≡ []) ⊎ ((digest : List ℕ) × (path : List ℕ) × FlatLine line digest path)
 
--- the line at this place, from 0 and counting empty ones, is the first that is not good
-pub record IsFirstBadLine (lines : List (List ℕ)) (place : ℕ) : Type 0 where
-  pub before : List (List ℕ)
-  pub line : List ℕ
-  pub after : List (List ℕ)
-  pub cut : lines ≡ before ++ line ∷ after
-  pub counted : length before ≡ place
-  pub good : All IsGoodLine before
-  pub bad : ¬ (IsGoodLine line)
+-- the line at this place, from 0 and counting empty ones, is the first that a flat policy may not have
+abbrev pub BreaksAt : List (List ℕ) → ℕ → Type 0
+BreaksAt lines place = IsFirstFailing IsGoodLine (λ line. ¬ (IsGoodLine line)) lines place
 
 -- the text is no flat policy: its first bad line, or too many distinct paths where all lines are good
 abbrev pub IsFlatFault : List ℕ → PolicyFault → Type 0
-IsFlatFault text (Line place) = IsFirstBadLine (lines_of text) place
+IsFlatFault text (Line place) = BreaksAt (lines_of text) place
 IsFlatFault text (Over Paths) = (digests : DigestMap) × ListsDigests text digests × (262144 < finite_map.len digests)
 IsFlatFault text (Over Patterns) = ⊥
 IsFlatFault text (Over PatternBytes) = ⊥

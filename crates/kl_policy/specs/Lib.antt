@@ -2,5 +2,6 @@ pub mod Digests
 pub mod Flat
 pub mod Policy
 pub mod PolicyFields
-pub mod Table
 pub mod Texts
+pub mod Inner
+pub mod Reading

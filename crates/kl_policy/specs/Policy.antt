@@ -1,26 +1,25 @@
 -- Which entries of a measurement list a policy allows, and why it does not allow another.
 use Rattle.std.specs.Prelude.{◌≡◌, ℕ, if◌then◌else◌, Option, None, Some, List, All, take, slice_get, IsTrue, IsSomeAnd, MatchBool}
 use Rattle.std.specs.FinMap as finite_map
-use Rattle.std.specs.List.{list_any}
-use Rattle.std.specs.Str.{bytes_eq}
+use Rattle.std.specs.FinSet as finite_set
 use Rattle.kl_entry.specs.Entries.{EntryFields, is_violation, is_consistent}
-use Rattle.kl_policy.specs.Digests.{HasDigest}
+use Rattle.kl_policy.specs.Digests.{DigestSet, HasDigest}
 use Rattle.kl_policy.specs.PolicyFields.{PolicyFields}
 use Rattle.kl_policy.specs.declared.why.Why.{Why}
 use Rattle.kl_policy.specs.declared.why.Why.TheVariants.{Violation, Inconsistent, Unknown, Digest}
 
 -- a violation is allowed where the policy passes violations; another entry is allowed where it is
 -- consistent and the policy names its digest for its path
-abbrev pub IsAllowed : PolicyFields → EntryFields → Type 0
-IsAllowed policy entry =
+abbrev pub Allows : PolicyFields → EntryFields → Type 0
+Allows policy entry =
     MatchBool (is_violation entry)
     (IsTrue policy.passes_violations)
     (IsTrue (is_consistent entry) × HasDigest policy.digests entry.path entry.digest)
 
 -- why a digest is not among those of its path
-abbrev pub why_unlisted : Option (List (List ℕ)) → List ℕ → Option Why
+abbrev pub why_unlisted : Option DigestSet → List ℕ → Option Why
 why_unlisted None digest = Some Unknown
-why_unlisted (Some known) digest = if list_any (bytes_eq digest) known then None else Some Digest
+why_unlisted (Some known) digest = if finite_set.contains known digest then None else Some Digest
 
 -- why the policy does not allow the entry: the first that fails; none, where it allows it
 abbrev pub why_of : PolicyFields → EntryFields → Option Why
@@ -31,7 +30,7 @@ why_of policy entry =
 
 -- the place, from 0, of the first entry that is not allowed, and why it is not; none, where all are
 abbrev pub IsFirstBad : PolicyFields → List EntryFields → Option (ℕ × Why) → Type 0
-IsFirstBad policy entries None = All (IsAllowed policy) entries
+IsFirstBad policy entries None = All (Allows policy) entries
 IsFirstBad policy entries (Some found) =
     IsSomeAnd (slice_get entries found.0) (λ entry. why_of policy entry ≡ Some found.1)
-    × All (IsAllowed policy) (take found.0 entries)
+    × All (Allows policy) (take found.0 entries)

@@ -12,13 +12,10 @@ limit_text Paths = codes "more than 262144 paths"
 limit_text Patterns = codes "more than 32 patterns"
 limit_text PatternBytes = codes "a pattern of more than 512 bytes"
 
-abbrev pub memory_text : List ℕ
-memory_text = codes "out of memory"
-
 abbrev pub fault_text : PolicyFault → List ℕ
 fault_text (Line number) = codes "line " ++ decimal number ++ codes " is no digest, two spaces and a path"
 fault_text (Over limit) = codes "the policy has " ++ limit_text limit
-fault_text Memory = memory_text
+fault_text Memory = codes "out of memory"
 
 abbrev pub why_text : Why → List ℕ
 why_text Violation = codes "a violation"

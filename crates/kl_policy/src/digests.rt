@@ -1,70 +1,91 @@
 //! The digests of each path, in a hash table.
 
-ghost use Rattle.std.specs.Prelude.{◌≡◌, ℕ, List, [], ◌∷◌, ◌++◌, OnOk, Some, if◌then◌else◌, unwrap_or, string_bytes};
+ghost use Rattle.std.specs.Prelude.{◌≡◌, ℕ, List, OnOk, Some, if◌then◌else◌, unwrap_or, string_bytes};
 ghost use Rattle.std.specs.HashMap.{get_by_text};
 ghost use Rattle.std.specs.FinMap as finite_map;
-ghost use Rattle.std.specs.List.{list_any};
+ghost use Rattle.std.specs.FinSet as finite_set;
 ghost use Rattle.std.specs.Option.{option_copied};
 ghost use Rattle.std.specs.Str.{bytes_eq};
 
-use crate::fault::Memory;
+use crate::packed::PackedDigests;
+use kl_base::Memory;
 use kl_entry::FileDigest;
 use std::alloc::Global;
 use std::collections::HashMap;
 use std::collections::hash_map::Entry;
 use std::marker::Model;
 
-/// The digests of one path, of which there is mostly one: it needs no memory of its own.
+/// The digests of one path, of which there is mostly one: it needs no memory of its own. Contracts see the
+/// set of them.
 #[derive(Drop)]
-pub struct DigestList {
+pub struct KnownDigests {
     first: FileDigest,
-    more: Vec<FileDigest>,
+    more: Option<Box<PackedDigests>>,
 }
 
-impl Model for DigestList {
-    ghost use Rattle.std.specs.Prelude.{ℕ, List, ◌∷◌};
+impl Model for KnownDigests {
+    ghost use Rattle.kl_policy.specs.Digests.{DigestSet, digest_set_code};
 
-    ghost Value = { List (List ℕ) };
+    ghost Value = { DigestSet };
 
-    ghost view = { λ l. l.first ∷ l.more.items };
+    ghost coded = { digest_set_code };
+
+    ghost use Rattle.std.specs.FinSet.{empty, insert};
+    ghost use Rattle.std.specs.Option.{option_map_or};
+
+    ghost view = { λ k. insert (option_map_or (λ more. more.value) k.more empty) k.first };
 }
 
-impl DigestList {
-    fn of(alloc: Global, digest: FileDigest) -> DigestList
-        ensures { result ≡ digest ∷ [] }
+impl KnownDigests {
+    fn of(digest: FileDigest) -> KnownDigests
+        ensures { result ≡ finite_set.insert finite_set.empty digest }
     {
-        DigestList {
+        KnownDigests {
             first: digest,
-            more: Vec::new(alloc),
+            more: None,
         }
     }
 
-    fn push(&mut self, digest: FileDigest) -> Result<(), Memory>
-        ensures { OnOk result (self.new ≡ self.old ++ digest ∷ []) }
+    fn push(&mut self, alloc: Global, digest: &FileDigest) -> Result<(), Memory>
+        ensures { OnOk result (self.new ≡ finite_set.insert self.old digest.now) }
     {
-        self.more.push(digest)?;
+        match &mut self.more {
+            Some(more) => more.push(digest)?,
+            None => {
+                let mut more = PackedDigests::new(alloc);
+                more.push(digest)?;
+                self.more = Some(Box::new(alloc, more)?);
+            }
+        }
         Ok(())
     }
 
-    /// Whether the list has this digest.
-    pub fn contains(&self, digest: &[u8]) -> bool
-        ensures { result ≡ list_any (bytes_eq digest.now) self.now }
+    fn sort(&mut self)
+        ensures { self.new ≡ self.old }
     {
-        digest == self.first.as_slice() || is_among(digest, &self.more)
+        if let Some(more) = &mut self.more {
+            more.sort();
+        }
     }
-}
 
-/// Whether one of these digests has these bytes.
-fn is_among(digest: &[u8], digests: &[FileDigest]) -> bool
-    ensures { result ≡ list_any (bytes_eq digest.now) digests.now }
-{
-    digests.iter().any(|one| digest == one.as_slice())
+    /// Whether the path may have this digest.
+    pub fn contains(&self, digest: &[u8]) -> bool
+        ensures { result ≡ finite_set.contains self.now digest.now }
+    {
+        if digest == self.first.as_slice() {
+            return true;
+        }
+        match &self.more {
+            Some(more) => more.contains(digest),
+            None => false,
+        }
+    }
 }
 
 /// From paths to their digests.
 #[derive(Drop)]
 pub struct DigestMap {
-    map: HashMap<String, DigestList>,
+    map: HashMap<String, KnownDigests>,
 }
 
 impl Model for DigestMap {
@@ -74,7 +95,7 @@ impl Model for DigestMap {
 
     ghost coded = { digest_map_code };
 
-    ghost use Rattle.kl_policy.specs.Table.{table_map};
+    ghost use Rattle.kl_policy.specs.Inner.Table.{table_map};
 
     ghost view = { λ m. table_map m.map };
 }
@@ -89,14 +110,25 @@ impl DigestMap {
     }
 
     /// Adds a digest to those of a path.
-    pub fn add(&mut self, alloc: Global, path: &str, digest: FileDigest) -> Result<(), Memory>
-        ensures { OnOk result (self.new ≡ finite_map.insert self.old path.now (unwrap_or (finite_map.get self.old path.now) [] ++ digest ∷ [])) }
+    pub fn add(&mut self, alloc: Global, path: &str, digest: &FileDigest) -> Result<(), Memory>
+        ensures { OnOk result (self.new ≡ finite_map.insert self.old path.now (finite_set.insert (unwrap_or (finite_map.get self.old path.now) finite_set.empty) digest.now)) }
     {
         push_at(&mut self.map, alloc, String::from_str(alloc, path)?, digest)
     }
 
+    /// Sorts the digests of each path, so that a look-up takes no more steps than the logarithm of how many
+    /// there are.
+    pub fn sort(&mut self)
+        ensures { self.new ≡ self.old }
+    {
+        self.map.retain(|_path, known| {
+            known.sort();
+            true
+        });
+    }
+
     /// The digests of a path.
-    pub fn find(&self, path: &str) -> Option<&DigestList>
+    pub fn find(&self, path: &str) -> Option<&KnownDigests>
         ensures { option_copied result ≡ finite_map.get self.now path.now }
     {
         self.map.get(path)
@@ -110,20 +142,20 @@ impl DigestMap {
     }
 }
 
-/// Adds a digest to the list at `path`, or begins a list there.
+/// Adds a digest to those at `path`, or begins with it there.
 fn push_at(
-    table: &mut HashMap<String, DigestList>,
+    table: &mut HashMap<String, KnownDigests>,
     alloc: Global,
     path: String,
-    digest: FileDigest,
+    digest: &FileDigest,
 ) -> Result<(), Memory>
     ensures { OnOk result ((q : List ℕ) → get_by_text table.new q
-        ≡ (if bytes_eq (string_bytes path) q then Some (unwrap_or (get_by_text table.old (string_bytes path)) [] ++ digest ∷ []) else get_by_text table.old q)) }
+        ≡ (if bytes_eq (string_bytes path) q then Some (finite_set.insert (unwrap_or (get_by_text table.old (string_bytes path)) finite_set.empty) digest.now) else get_by_text table.old q)) }
 {
     match table.entry(path)? {
-        Entry::Occupied(mut found) => found.get_mut().push(digest)?,
+        Entry::Occupied(mut found) => found.get_mut().push(alloc, digest)?,
         Entry::Vacant(place) => {
-            place.insert_entry(DigestList::of(alloc, digest));
+            place.insert_entry(KnownDigests::of(*digest));
         }
     }
     Ok(())

@@ -1,9 +1,10 @@
 //! Why a policy could not be read.
 
 ghost use Rattle.std.specs.Prelude.{Some};
-ghost use Rattle.kl_policy.specs.Texts.{fault_text, limit_text, memory_text};
+ghost use Rattle.kl_policy.specs.Texts.{fault_text, limit_text};
 
-use std::alloc::{AllocError, AllocFailed};
+use kl_base::Memory;
+use std::alloc::AllocError;
 use std::error::Error;
 use std::fmt;
 
@@ -59,22 +60,6 @@ impl fmt::Display for PolicyFault {
 
 impl Error for PolicyFault {}
 
-/// There was no memory left.
-#[derive(Clone, Copy, Debug, PartialEq, Eq)]
-pub struct Memory;
-
-impl From<AllocError> for Memory {
-    fn from(_e: AllocError) -> Memory {
-        Memory
-    }
-}
-
-impl<T: Drop> From<AllocFailed<T>> for Memory {
-    fn from(_e: AllocFailed<T>) -> Memory {
-        Memory
-    }
-}
-
 impl From<Memory> for PolicyFault {
     ghost use Rattle.std.specs.Prelude.{◌≡◌};
     ghost use Rattle.kl_policy.specs.declared.fault.PolicyFault.TheVariants.{Memory as no_memory};
@@ -96,13 +81,3 @@ impl From<AllocError> for PolicyFault {
         PolicyFault::Memory
     }
 }
-
-impl fmt::Display for Memory {
-    ghost output = { λ _. Some memory_text };
-
-    fn fmt<W: fmt::Write>(&self, f: &mut fmt::Formatter<W>) -> fmt::Result {
-        write!(f, "out of memory")
-    }
-}
-
-impl Error for Memory {}

@@ -3,7 +3,7 @@
 ghost use Rattle.std.specs.Prelude.{◌≡◌, ◌≤◌, ℕ, false, IfOk, IfErr};
 ghost use Rattle.std.specs.FinMap as finite_map;
 ghost use Rattle.kl_policy.specs.Digests.{DigestMap};
-ghost use Rattle.kl_policy.specs.Flat.{ListsDigests, IsFirstBadLine, IsFlatFault, IsReadAs, IsRefusedAt};
+ghost use Rattle.kl_policy.specs.Flat.{ListsDigests, BreaksAt, IsFlatFault, IsReadAs, IsRefusedAt};
 ghost use Rattle.kl_entry.specs.Lines.{lines_of};
 
 use crate::digests::DigestMap;
@@ -17,7 +17,8 @@ use std::alloc::Global;
 /// The most distinct paths that a policy may have.
 const MOST_PATHS: usize = 262_144;
 
-/// Reads a flat policy: an allowlist as `sha256sum` writes it.
+/// Reads a flat policy: an allowlist as `sha256sum` writes it in text mode, and not in binary mode (with a
+/// `*` before the path) or with an escaped path (behind a backslash).
 ///
 /// A line is 2 to 128 hexadecimal digits in either case, an even number of them, then two spaces, then
 /// a path. Empty lines are skipped. The digests of a repeated path are added up. Violations fail.
@@ -34,7 +35,7 @@ pub fn read_flat(alloc: Global, text: &str) -> Result<Policy, PolicyFault>
     ensures violations { IfOk result (λ policy. policy.passes_violations ≡ false) }
     ensures fault { IfErr result (λ fault. IsFlatFault text.now fault) }
     ensures only { (digests : DigestMap) → ListsDigests text.now digests → IsReadAs result digests }
-    ensures alone { (place : ℕ) → IsFirstBadLine (lines_of text.now) place → IsRefusedAt result place }
+    ensures alone { (place : ℕ) → BreaksAt (lines_of text.now) place → IsRefusedAt result place }
 {
     let digests = collect(alloc, text)?;
     if digests.len() > MOST_PATHS {
@@ -56,9 +57,13 @@ fn collect(alloc: Global, text: &str) -> Result<DigestMap, PolicyFault>
             let Some(listed) = read_line(line) else {
                 return Err(PolicyFault::Line(number));
             };
-            digests.add(alloc, listed.path, listed.digest)?;
+            digests.add(alloc, listed.path, &listed.digest)?;
         }
         number += 1;
+    }
+    // Where there are as many paths as lines, each has one digest.
+    if digests.len() < number {
+        digests.sort();
     }
     Ok(digests)
 }

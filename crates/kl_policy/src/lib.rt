@@ -5,18 +5,19 @@
 #![tactic(auto)]
 
 mod digests;
-mod digits;
 mod fault;
 mod flat;
 mod kind;
 mod line;
+mod packed;
 mod policy;
 #[cfg(test)]
 mod tests;
 mod why;
 
-pub use fault::{Limit, Memory, PolicyFault};
+pub use fault::{Limit, PolicyFault};
 pub use flat::read_flat;
 pub use kind::PolicyKind;
+pub use kl_base::Memory;
 pub use policy::Policy;
 pub use why::Why;

@@ -4,7 +4,7 @@ ghost use Rattle.std.specs.Prelude.{◌≡◌, ◌≢◌, ℕ, ◌≤◌, List, 
 ghost use Rattle.hex.specs.Hex.{decode_of};
 ghost use Rattle.kl_policy.specs.Flat.{FlatLine};
 
-use crate::digits::digit_value;
+use kl_base::digit_value;
 use kl_entry::FileDigest;
 
 /// The fewest digits of a line.

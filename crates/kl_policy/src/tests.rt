@@ -1,40 +1,24 @@
 use super::*;
 use kl_entry::{Entry, FileDigest};
-use std::alloc::Global;
 use std::test::Fail;
 
-// Template hashes of `sha256` and a digest at a path, as hexadecimal digits: of 00ff and of 00ff11 at
-// `/bin/a`, of ab at ` c d`, of 01 at `/bin/a`, of 00ff at `/bin/b`. The first is Python's
-// hashlib.sha1(bytes.fromhex("0a000000" + b"sha256:\0".hex() + "00ff" + "07000000" +
-// b"/bin/a\0".hex())), and the others come in the same way.
-const HASHES: [&str; 5] = [
+// Upper-case digits, an empty line, a path that begins with a space, and a path with three digests of which one stands twice.
+const FLAT: &str = "00FF  /bin/a\n\nab   c d\n00ff11  /bin/a\n17  /bin/a\n00ff  /bin/a";
+
+// Template hashes of `sha256` and a digest at a path, as hexadecimal digits: of 00ff at `/bin/a`, of 00ff11 and of 17
+// there, of ab at ` c d`, of 01 at `/bin/a`, and of 00ff at `/bin/b`. The first is Python's
+// hashlib.sha1(bytes.fromhex("0a000000" + b"sha256:\0".hex() + "00ff" + "07000000" + b"/bin/a\0".hex())), and the
+// others come in the same way.
+const HASHES: [&str; 6] = [
     "801e095fe4d9789e9fd9f7545da38b5304160289",
     "bc9aa6ed21cecfabdc5e36b71ba1a27174bc098b",
+    "ef5991ca2317a00055a4670f66d887cb3c7e63e7",
     "9d948a084475215790e61e278ab63954b12d0df9",
     "caa77f9931d07971a6e7c67dda17c4f1335a3de8",
     "b57ad9c8d977f43c868fab916b50f192d51cf545",
 ];
 
 const ZEROS: &str = "0000000000000000000000000000000000000000";
-
-// Upper-case digits, an empty line, a path that begins with a space, and a repeated path.
-const FLAT: &str = "00FF  /bin/a\n\nab   c d\n00ff11  /bin/a";
-
-// The first entry that the policy does not allow, of one that it allows and one of this hash, digest
-// and path.
-fn first_bad(
-    policy: &Policy,
-    alloc: Global,
-    hash: &str,
-    digest: &[u8],
-    path: &str,
-) -> Result<Option<(usize, Why)>, Fail> {
-    let entries = [
-        entry(HASHES[0], &[0, 255], "/bin/a")?,
-        entry(hash, digest, path)?,
-    ];
-    Ok(policy.first_bad(alloc, &entries)?)
-}
 
 fn entry<'a>(hash: &str, digest: &[u8], path: &'a str) -> Result<Entry<'a>, Fail> {
     if path.len() > 8192 {
@@ -48,98 +32,95 @@ fn entry<'a>(hash: &str, digest: &[u8], path: &'a str) -> Result<Entry<'a>, Fail
 
 #[test]
 fn what_a_flat_policy_allows(rt: HostRuntime) -> Result<(), Fail> {
-    let alloc = rt.alloc();
-    let policy = read_flat(alloc, FLAT)?;
-    assert_eq!(rt; policy.source(), FLAT);
-    assert_eq!(rt; policy.kind(), PolicyKind::Flat);
-    let cases: [(&str, &[u8], &str, Option<Why>); 7] = [
+    let policy = read_flat(rt.alloc(), FLAT)?;
+    let cases: [(&str, &[u8], &str, Option<Why>); 8] = [
         (HASHES[0], &[0, 255], "/bin/a", None),
         (HASHES[1], &[0, 255, 17], "/bin/a", None),
-        (HASHES[2], &[171], " c d", None),
-        (HASHES[3], &[1], "/bin/a", Some(Why::Digest)),
-        (HASHES[4], &[0, 255], "/bin/b", Some(Why::Unknown)),
+        (HASHES[2], &[23], "/bin/a", None),
+        (HASHES[3], &[171], " c d", None),
+        (HASHES[4], &[1], "/bin/a", Some(Why::Digest)),
+        (HASHES[5], &[0, 255], "/bin/b", Some(Why::Unknown)),
         (HASHES[0], &[0, 255], "/bin/b", Some(Why::Inconsistent)),
         (ZEROS, &[0, 255], "/bin/a", Some(Why::Violation)),
     ];
     for (hash, digest, path, want) in cases {
-        let got = first_bad(&policy, alloc, hash, digest, path)?;
-        assert_eq!(rt; got, want.map(|why| (1, why)), "{path}");
+        let entries = [entry(hash, digest, path)?];
+        let bad = policy.first_bad(rt.alloc(), &entries)?;
+        assert_eq!(rt; bad, want.map(|why| (0, why)), "{path}");
     }
     Ok(())
 }
 
 #[test]
+fn a_path_may_have_many_digests(rt: HostRuntime) -> Result<(), Fail> {
+    let mut text = String::new(rt.alloc());
+    for i in 0..70_000 {
+        text.push_str(format!(in rt.alloc(); "{i:06x}  /bin/a\n")?.as_str())?;
+    }
+    let policy = read_flat(rt.alloc(), text.as_str())?;
+    let entries = [
+        entry(HASHES[1], &[0, 255, 17], "/bin/a")?,
+        entry(HASHES[0], &[0, 255], "/bin/a")?,
+    ];
+    let bad = policy.first_bad(rt.alloc(), &entries)?;
+    assert!(rt; bad == Some((1, Why::Digest)) && policy.source() == text.as_str());
+    Ok(())
+}
+
+#[test]
 fn the_first_bad_line_counts_empty_ones(rt: HostRuntime) -> Result<(), Fail> {
-    let cases = [
+    for (text, want) in [
         ("", None),
         ("\n\n", None),
         ("00  a\n", None),
         ("00  a\r\n", None),
         ("00   ", None),
+        (
+            "aBaBaBaBaBaBaBaBaBaBaBaBaBaBaBaBaBaBaBaBaBaBaBaBaBaBaBaBaBaBaBaBaBaBaBaBaBaBaBaBaBaBaBaBaBaBaBaBaBaBaBaBaBaBaBaBaBaBaBaBaBaBaBaB  a",
+            None,
+        ),
+        (
+            "aBaBaBaBaBaBaBaBaBaBaBaBaBaBaBaBaBaBaBaBaBaBaBaBaBaBaBaBaBaBaBaBaBaBaBaBaBaBaBaBaBaBaBaBaBaBaBaBaBaBaBaBaBaBaBaBaBaBaBaBaBaBaBaB00  a",
+            Some(0),
+        ),
         ("\n00  a\n\n0g  b\n0  c", Some(3)),
         ("000  a", Some(0)),
         ("00 a", Some(0)),
+        ("00 *a", Some(0)),
+        ("\\00  a\\\\b", Some(0)),
         ("00\t a", Some(0)),
         ("00  ", Some(0)),
         ("00", Some(0)),
         ("  a", Some(0)),
         ("00  a\n ", Some(1)),
         ("00  a\n# b", Some(1)),
-    ];
-    for (text, want) in cases {
-        let got = read_flat(rt.alloc(), text).err();
-        assert_eq!(rt; got, want.map(PolicyFault::Line), "{text:?}");
+    ] {
+        let fault = read_flat(rt.alloc(), text).err();
+        assert_eq!(rt; fault, want.map(PolicyFault::Line), "{text:?}");
     }
-    Ok(())
-}
-
-#[test]
-fn at_most_128_digits(rt: HostRuntime) -> Result<(), Fail> {
-    let alloc = rt.alloc();
-    let mut text = String::new(alloc);
-    for _ in 0..64 {
-        text.push_str("aB")?;
-    }
-    let long = format!(in alloc; "{text}00  a")?;
-    text.push_str("  a")?;
-    assert!(rt; read_flat(alloc, text.as_str()).is_ok());
-    assert_eq!(rt;
-        read_flat(alloc, long.as_str()).err(),
-        Some(PolicyFault::Line(0))
-    );
     Ok(())
 }
 
 #[test]
 fn at_most_262144_distinct_paths(rt: HostRuntime) -> Result<(), Fail> {
-    let alloc = rt.alloc();
-    let mut text = String::new(alloc);
+    let mut text = String::new(rt.alloc());
     for i in 0..262_144 {
-        text.push_str(format!(in alloc; "00  {i}\n")?.as_str())?;
+        text.push_str(format!(in rt.alloc(); "00  {i}\n")?.as_str())?;
     }
-    text.push_str("00  7\n")?;
-    assert!(rt; read_flat(alloc, text.as_str()).is_ok());
-    text.push_str("00  x\n")?;
-    assert_eq!(rt;
-        read_flat(alloc, text.as_str()).err(),
-        Some(PolicyFault::Limit(Limit::Paths))
-    );
-    text.push_str("x\n")?;
-    assert_eq!(rt;
-        read_flat(alloc, text.as_str()).err(),
-        Some(PolicyFault::Line(262_146))
-    );
+    for (more, want) in [
+        ("00  7\n", None),
+        ("00  x\n", Some(PolicyFault::Limit(Limit::Paths))),
+        ("x\n", Some(PolicyFault::Line(262_146))),
+    ] {
+        text.push_str(more)?;
+        assert_eq!(rt; read_flat(rt.alloc(), text.as_str()).err(), want);
+    }
     Ok(())
 }
 
 #[test]
 fn faults_and_reasons_print_what_is_wrong(rt: HostRuntime) -> Result<(), Fail> {
-    let alloc = rt.alloc();
-    for (fault, text) in [
-        (
-            PolicyFault::Line(0),
-            "line 0 is no digest, two spaces and a path",
-        ),
+    for (fault, words) in [
         (
             PolicyFault::Line(262_146),
             "line 262146 is no digest, two spaces and a path",
@@ -158,9 +139,9 @@ fn faults_and_reasons_print_what_is_wrong(rt: HostRuntime) -> Result<(), Fail> {
         ),
         (PolicyFault::Memory, "out of memory"),
     ] {
-        assert_eq!(rt; fault.to_string(alloc)?.as_str(), text);
+        assert_eq!(rt; fault.to_string(rt.alloc())?.as_str(), words);
     }
-    for (why, text) in [
+    for (why, words) in [
         (Why::Violation, "a violation"),
         (
             Why::Inconsistent,
@@ -172,17 +153,17 @@ fn faults_and_reasons_print_what_is_wrong(rt: HostRuntime) -> Result<(), Fail> {
             "the digest is none of those known for the path",
         ),
     ] {
-        assert_eq!(rt; why.to_string(alloc)?.as_str(), text);
+        assert_eq!(rt; why.to_string(rt.alloc())?.as_str(), words);
     }
-    assert_eq!(rt; Memory.to_string(alloc)?.as_str(), "out of memory");
     Ok(())
 }
-
-// Threads share a policy.
-fn shared<T: Sync + Send>(_value: &T) {}
 
 #[test]
-fn a_policy_is_shared_by_threads(rt: HostRuntime) -> Result<(), Fail> {
-    shared(&read_flat(rt.alloc(), FLAT)?);
+fn a_policy_of_nothing_is_flat_and_shared_by_threads(rt: HostRuntime) -> Result<(), Fail> {
+    let policy = read_flat(rt.alloc(), "")?;
+    shared(&policy);
+    assert!(rt; policy.kind() == PolicyKind::Flat && policy.first_bad(rt.alloc(), &[])?.is_none());
     Ok(())
 }
+
+fn shared<T: Sync + Send>(_value: &T) {}

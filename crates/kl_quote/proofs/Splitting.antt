@@ -1,13 +1,14 @@
 -- A text has its three parts in one way alone, so it is the quote of one triple, and has no fault then.
-use Rattle.std.proofs.Common.{◌≡◌, ◌≢◌, ℕ, zero, suc, ◌+◌, List, ◌∷◌, ◌++◌, refl, sym, ap, ◌∙◌, arith}
+use Rattle.std.proofs.Common.{◌≡◌, ◌≢◌, ℕ, zero, suc, ◌+◌, List, [], ◌∷◌, ◌++◌, refl, sym, ap, ◌∙◌, arith}
 use Rattle.std.proofs.lemmas.List.{append_assoc}
+use Rattle.std.specs.List.{AllByRecursion}
 use Rattle.std.specs.Result.{IfOk}
 use Rattle.std.specs.declared.result.Result.{Result}
 use Rattle.std.specs.declared.result.Result.TheVariants.{Ok, Err}
 use Rattle.kl_quote.specs.declared.quote.Quote.{Quote}
 use Rattle.kl_quote.specs.declared.quote.QuoteFault.{QuoteFault}
 use Rattle.kl_quote.specs.declared.quote.QuoteFault.TheVariants.{Form, Memory}
-use Rattle.kl_quote.specs.QuoteText.{ReadsAs, base64, text_of_parts, colons, HasForm, AreParts, IsBase64, IsQuoteText, IsFormFault}
+use Rattle.kl_quote.specs.QuoteText.{ReadsAs, base64, text_of_parts, colons, HasForm, AreParts, IsBase64, IsQuoteText, IsFirstBad, IsFormFault}
 use Rattle.kl_quote.proofs.Colons.{colons-append, colons_after, colons_other, cut_unique}
 use Rattle.kl_quote.proofs.Encoding.{colons-base64, base64_unique}
 
@@ -66,16 +67,18 @@ quote_unique text a s v b t w p q =
       base64_unique v w p.value_bytes q.value_bytes same.2,
     )
 
+-- parts that are all base64 have none that is bad
+none_bad : (parts : List (List ℕ)) → AllByRecursion IsBase64 parts → (place : ℕ) → ¬ IsFirstBad parts place
+none_bad [] each place bad = bad
+none_bad (part ∷ parts) each zero bad = bad each.0
+none_bad (part ∷ parts) each (suc place) bad = none_bad parts each.1 place bad.1
+
 -- a quote's text has no fault
 pub quote_faultless : (text a s v : List ℕ) (part : ℕ) → IsQuoteText text a s v → ¬ IsFormFault text part
 quote_faultless text a s v zero q fault = fault (parts_form text _ _ _ (quote_parts text a s v q))
-quote_faultless text a s v (suc zero) q fault =
-    fault.4 (quote_encoded text a s v fault.0 fault.1 fault.2 q fault.3).0
-quote_faultless text a s v (suc (suc zero)) q fault =
-    fault.5 (quote_encoded text a s v fault.0 fault.1 fault.2 q fault.3).1
-quote_faultless text a s v (suc (suc (suc zero))) q fault =
-    fault.6 (quote_encoded text a s v fault.0 fault.1 fault.2 q fault.3).2
-quote_faultless text a s v (suc (suc (suc (suc part)))) q fault = fault
+quote_faultless text a s v (suc place) q (b, t, w, parts, bad) =
+    let encoded = quote_encoded text a s v b t w q parts in
+    none_bad (b ∷ t ∷ w ∷ []) (encoded.0, (encoded.1, (encoded.2, tt))) place bad
 
 -- what reading answered about a quote's text, if it answers no other quote and no false fault
 pub only_from : (text : List ℕ) (r : Result Quote QuoteFault) → IfOk r (λ q. IsQuoteText text q.attest q.signature q.pcrs)

@@ -1,12 +1,13 @@
 -- The text of a quote: `r`, and the attestation structure, its signature and the PCR values that it
 -- covers, each in base64 with the standard alphabet and padding (RFC 4648, section 4) and parted by
 -- colons. Each part has its one canonical text, and an empty part stands for no bytes.
-use Rattle.std.specs.Prelude.{◌≡◌, ℕ, zero, suc, ◌==◌, List, ◌++◌, codes}
+use Rattle.std.specs.Prelude.{◌≡◌, ℕ, zero, suc, ◌==◌, List, [], ◌∷◌, ◌++◌, codes}
 use Rattle.std.specs.List.{count_by}
 use Rattle.std.specs.declared.result.Result.{Result}
 use Rattle.std.specs.declared.result.Result.TheVariants.{Ok, Err}
 use Rattle.base64.specs.Engines.{standard}
-use Rattle.base64.specs.GeneralPurpose.{IsBytes, encode_of}
+use Rattle.base64.specs.GeneralPurpose.{encode_of}
+use Rattle.kl_base.specs.Bytes.{IsBytes}
 use Rattle.kl_quote.specs.declared.quote.Quote.{Quote}
 use Rattle.kl_quote.specs.declared.quote.QuoteFault.{QuoteFault}
 use Rattle.kl_quote.specs.declared.quote.QuoteFault.TheVariants.{Form, Memory}
@@ -58,19 +59,18 @@ IsBase64Of part bytes = IsBytes bytes × (part ≡ base64 bytes)
 abbrev pub IsBase64 : List ℕ → Type 0
 IsBase64 part = (bytes : List ℕ) × IsBase64Of part bytes
 
--- the fault of a text: 0 where it lacks the form, and 1 to 3 for the first part that is no base64
+-- the part at this place, counted from 0, is no base64, and each before it is
+abbrev pub IsFirstBad : List (List ℕ) → ℕ → Type 0
+IsFirstBad [] place = ⊥
+IsFirstBad (part ∷ parts) zero = ¬ IsBase64 part
+IsFirstBad (part ∷ parts) (suc place) = IsBase64 part × IsFirstBad parts place
+
+-- the fault of a text: 0 where it lacks the form, and else the number, from 1 on, of the first part that is no base64
 abbrev pub IsFormFault : List ℕ → ℕ → Type 0
 IsFormFault text zero = ¬ HasForm text
-IsFormFault text (suc zero) =
+IsFormFault text (suc place) =
     (first : List ℕ) × (second : List ℕ) × (third : List ℕ)
-    × AreParts text first second third × (¬ IsBase64 first)
-IsFormFault text (suc (suc zero)) =
-    (first : List ℕ) × (second : List ℕ) × (third : List ℕ)
-    × AreParts text first second third × IsBase64 first × (¬ IsBase64 second)
-IsFormFault text (suc (suc (suc zero))) =
-    (first : List ℕ) × (second : List ℕ) × (third : List ℕ)
-    × AreParts text first second third × IsBase64 first × IsBase64 second × (¬ IsBase64 third)
-IsFormFault text (suc (suc (suc (suc _)))) = ⊥
+    × AreParts text first second third × IsFirstBad (first ∷ second ∷ third ∷ []) place
 
 -- ---- What reading answers
 

@@ -1,8 +1,7 @@
 //! What an agent answers to a challenge.
 ghost use Rattle.std.specs.Prelude.{◌≡◌, ◌<◌, ◌≤◌, IfSome, IfNone};
 ghost use Rattle.std.specs.String.{string_bytes};
-ghost use Rattle.kl_quote.specs.declared.evidence.TheConstants.{EVIDENCE_LIMIT};
-ghost use Rattle.kl_quote.specs.Size.{total_bytes};
+ghost use Rattle.kl_quote.specs.Size.{evidence_limit, total_bytes};
 
 use kl_states::Text;
 
@@ -23,7 +22,7 @@ pub struct Evidence {
     pub quote: Text,
     /// The lines of the agent's IMA measurement list from entry `start` on.
     pub list: Text,
-    pub ghost bounded: { total_bytes bank public quote list ≤ EVIDENCE_LIMIT },
+    pub ghost bounded: { total_bytes bank public quote list ≤ evidence_limit },
 }
 
 impl Evidence {
@@ -41,7 +40,7 @@ impl Evidence {
         ensures public { IfSome result (λ e. e.public ≡ string_bytes public) }
         ensures quote { IfSome result (λ e. e.quote ≡ string_bytes quote) }
         ensures list { IfSome result (λ e. e.list ≡ string_bytes list) }
-        ensures none { IfNone result (EVIDENCE_LIMIT < total_bytes (string_bytes bank) (string_bytes public) (string_bytes quote) (string_bytes list)) }
+        ensures none { IfNone result (evidence_limit < total_bytes (string_bytes bank) (string_bytes public) (string_bytes quote) (string_bytes list)) }
     {
         let (bank, public) = (Text::new(bank), Text::new(public));
         let (quote, list) = (Text::new(quote), Text::new(list));

@@ -2,11 +2,10 @@
 #![tactic(auto)]
 
 mod evidence;
-mod memory;
 mod quote;
 
 pub use evidence::{EVIDENCE_LIMIT, Evidence};
-pub use memory::Memory;
+pub use kl_base::Memory;
 pub use quote::{Quote, QuoteFault, read_quote, write_quote};
 
 #[cfg(test)]

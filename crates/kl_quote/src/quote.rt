@@ -3,9 +3,9 @@ ghost use Rattle.std.specs.Prelude.{◌≡◌, ℕ, List, ◌∷◌, ◌++◌, I
 ghost use Rattle.std.specs.String.{string_bytes};
 ghost use Rattle.kl_quote.specs.QuoteText.{quote_text, colons, HasForm, AreParts, IsBase64, IsBase64Of, IsQuoteText, IsFormFault, FailsAs, ReadsAs};
 
-use crate::memory::Memory;
 use base64::DecodeAllocError;
 use base64::engine::general_purpose::STANDARD;
+use kl_base::Memory;
 use kl_states::Blob;
 use std::alloc::{AllocError, Global};
 
@@ -50,6 +50,7 @@ fn cut_at_colon(text: &str) -> Option<(&str, &str)>
 /// The parts of a text that begins with `r` and has exactly two colons.
 fn parts_of(text: &str) -> Option<Parts<'_>>
     ensures parts { IfSome result (λ p. AreParts text.now p.attest.now p.signature.now p.pcrs.now) }
+    ensures form { IfSome result (λ p. HasForm text.now) }
     ensures none { IfNone result (¬ HasForm text.now) }
 {
     let rest = text.strip_prefix('r')?;
@@ -77,6 +78,25 @@ fn decode_part(alloc: Global, part: &str, number: u8) -> Result<Blob, QuoteFault
     }
 }
 
+/// Decodes the parts of a text, in their order.
+fn decode(alloc: Global, text: &str) -> Result<Quote, QuoteFault>
+    ensures found { IfOk result (λ q. IsQuoteText text.now q.attest q.signature q.pcrs) }
+    ensures fault { (part : ℕ) → result ≡ Err (QuoteFault.Form part) → IsFormFault text.now part }
+    ensures memory { result ≡ Err QuoteFault.Memory → HasForm text.now }
+{
+    let Some(parts) = parts_of(text) else {
+        return Err(QuoteFault::Form(0));
+    };
+    let attest = decode_part(alloc, parts.attest, 1)?;
+    let signature = decode_part(alloc, parts.signature, 2)?;
+    let pcrs = decode_part(alloc, parts.pcrs, 3)?;
+    Ok(Quote {
+        attest,
+        signature,
+        pcrs,
+    })
+}
+
 /// Reads the text of a quote: `r`, and then the attestation structure, the signature and the PCR
 /// values, each in base64 with the standard alphabet and padding (RFC 4648, section 4), parted by
 /// colons. Only the canonical text of a part is read: no bit past its last byte is set.
@@ -94,17 +114,7 @@ pub fn read_quote(alloc: Global, text: &str) -> Result<Quote, QuoteFault>
     // A text that lacks the form is told so, whatever memory is left.
     ensures formless { ¬ HasForm text.now → result ≡ Err (QuoteFault.Form 0) }
 {
-    let Some(parts) = parts_of(text) else {
-        return Err(QuoteFault::Form(0));
-    };
-    let attest = decode_part(alloc, parts.attest, 1)?;
-    let signature = decode_part(alloc, parts.signature, 2)?;
-    let pcrs = decode_part(alloc, parts.pcrs, 3)?;
-    Ok(Quote {
-        attest,
-        signature,
-        pcrs,
-    })
+    decode(alloc, text)
 }
 
 /// Writes the text of a quote, as [`read_quote`] reads it.

@@ -1,9 +1,40 @@
 use super::*;
+use std::alloc::{AllocError, Global};
 use std::test::*;
+
+fn is_read(alloc: Global, text: &str, attest: &[u8], signature: &[u8], pcrs: &[u8]) -> bool {
+    match read_quote(alloc, text) {
+        Ok(quote) => {
+            quote.attest.as_slice() == attest
+                && quote.signature.as_slice() == signature
+                && quote.pcrs.as_slice() == pcrs
+        }
+        Err(_) => false,
+    }
+}
+
+fn is_written(alloc: Global, text: &str, attest: &[u8], signature: &[u8], pcrs: &[u8]) -> bool {
+    match write_quote(alloc, attest, signature, pcrs) {
+        Ok(written) => written.as_str() == text,
+        Err(_) => false,
+    }
+}
+
+// A quote over 99,999 bytes 7: three of them are `BwcH`.
+fn long_text(alloc: Global) -> Result<String, AllocError> {
+    let mut text = String::from_str(alloc, "r")?;
+    for _ in 0..33_333 {
+        text.push_str("BwcH")?;
+    }
+    text.push_str("::Zg==")?;
+    Ok(text)
+}
 
 #[test]
 fn quotes_read_and_write_as_rfc_4648_encodes_them(rt: HostRuntime) -> Result<(), Fail> {
-    let quotes: [(&str, &[u8], &[u8], &[u8]); 4] = [
+    let many = vec![in rt.alloc(); 7; 99_999]?;
+    let long = long_text(rt.alloc())?;
+    let quotes: [(&str, &[u8], &[u8], &[u8]); 5] = [
         ("rZm9v:Zm8=:Zg==", b"foo", b"fo", b"f"),
         (
             "rZm9vYmFy:+/+/:AAECAw==",
@@ -18,22 +49,19 @@ fn quotes_read_and_write_as_rfc_4648_encodes_them(rt: HostRuntime) -> Result<(),
             b"",
         ),
         ("r::", b"", b"", b""),
+        (&long, &many, b"", b"f"),
     ];
     for (text, attest, signature, pcrs) in quotes {
-        let quote = read_quote(rt.alloc(), text).map_err(|_| "the text is a quote")?;
-        assert_eq!(rt; quote.attest.as_slice(), attest);
-        assert_eq!(rt; quote.signature.as_slice(), signature);
-        assert_eq!(rt; quote.pcrs.as_slice(), pcrs);
-        let written = write_quote(rt.alloc(), attest, signature, pcrs).map_err(
-            |_| "memory is left",
-        )?;
-        assert_eq!(rt; written.as_str(), text);
+        let alloc = rt.alloc();
+        let read = is_read(alloc, text, attest, signature, pcrs);
+        let written = is_written(alloc, text, attest, signature, pcrs);
+        assert!(rt; read && written, "{} bytes", attest.len());
     }
     Ok(())
 }
 
 #[test]
-fn faults_name_the_first_part_that_is_not_canonical_base64(rt: HostRuntime) -> Result<(), Fail> {
+fn faults_name_the_first_part_that_is_not_canonical_base64(rt: HostRuntime) {
     let faults = [
         ("", 0),
         ("dZg==:Zg==:", 0),
@@ -53,33 +81,50 @@ fn faults_name_the_first_part_that_is_not_canonical_base64(rt: HostRuntime) -> R
         let fault = read_quote(rt.alloc(), text).err();
         assert_eq!(rt; fault, Some(QuoteFault::Form(part)), "at {text}");
     }
-    Ok(())
 }
 
-#[test]
-fn evidence_has_the_fields_given(rt: HostRuntime) -> Result<(), Fail> {
-    let alloc = rt.alloc();
+// Evidence whose list has so many letters, and twelve bytes more.
+fn evidence(alloc: Global, letters: usize) -> Result<Option<Evidence>, AllocError> {
     let of = |text: &str| String::from_str(alloc, text);
-    let small = Evidence::new(of("sha256")?, 7, of("key")?, of("r::")?, of("10 ab\n")?).ok_or(
-        "the texts are short",
-    )?;
-    assert_eq!(rt; small.bank.as_str(), "sha256");
-    assert_eq!(rt; small.start, 7);
-    assert_eq!(rt; small.public.as_str(), "key");
-    assert_eq!(rt; small.quote.as_str(), "r::");
-    assert_eq!(rt; small.list.as_str(), "10 ab\n");
+    let mut list = String::with_capacity(alloc, letters)?;
+    for _ in 0..letters {
+        list.push('a')?;
+    }
+    Ok(Evidence::new(of("sha256")?, 7, of("key")?, of("r::")?, list))
+}
+
+fn has_the_fields(evidence: &Option<Evidence>, letters: usize) -> bool {
+    match evidence {
+        Some(e) => {
+            e.bank.as_str() == "sha256"
+                && e.start == 7
+                && e.public.as_str() == "key"
+                && e.quote.as_str() == "r::"
+                && e.list.len() == letters
+        }
+        None => false,
+    }
+}
+
+#[test]
+fn evidence_has_at_most_16_mib(rt: HostRuntime) -> Result<(), Fail> {
+    for (letters, taken) in [(0, true), (16_777_204, true), (16_777_205, false)] {
+        let made = evidence(rt.alloc(), letters)?;
+        let same = if taken {
+            has_the_fields(&made, letters)
+        } else {
+            made.is_none()
+        };
+        assert!(rt; same, "{letters}");
+    }
     Ok(())
 }
 
-fn shared<T: Sync + Send>(_value: &T) {}
+fn shared<T: Sync + Send>() {}
 
 #[test]
-fn threads_may_share_them(rt: HostRuntime) -> Result<(), Fail> {
-    let alloc = rt.alloc();
-    shared(&read_quote(alloc, "r::").map_err(|_| "the text is a quote")?);
-    shared(&QuoteFault::Form(0));
-    let text = || String::new(alloc);
-    let evidence = Evidence::new(text(), 0, text(), text(), text());
-    shared(&evidence.ok_or("the texts are short")?);
-    Ok(())
+fn threads_may_share_them() {
+    shared::<Quote>();
+    shared::<QuoteFault>();
+    shared::<Evidence>();
 }

@@ -1,17 +1,20 @@
--- The words that a line was cut into, one by one.
-use Rattle.std.proofs.Common.{◌≡◌, ℕ, ◌≤◌, List, [], ◌∷◌, length, get_or, map, codes, true, false, refl, sym, ap, subst, ◌∙◌, arith, length-append}
+-- The words that a line was cut into, one by one, and what they spell.
+use Rattle.std.proofs.Common.{◌≡◌, ℕ, zero, suc, ◌≤◌, List, [], ◌∷◌, length, get_or, map, codes, true, refl, sym, ap, subst, ◌∙◌, arith, length-append}
 use Rattle.std.proofs.Math.ListN.{get_or-map}
 use Rattle.std.proofs.lemmas.List.{length-map}
+use Rattle.std.proofs.lemmas.Bool.{false≢true}
 use denote.Ref.{Bor}
+use Rattle.kl_states.specs.Names.{IsAgentId, is_agent_id_byte}
 use Rattle.kl_bank.specs.Banks.{name_of}
-use Rattle.kl_script.specs.Words.{HasNo, IsEscaped, IsField, IsSplit}
-use Rattle.kl_script.specs.Commands.{AddFields, ReplyFields, SpellsAdd, SpellsReply}
+use Rattle.kl_quote.specs.Size.{total_bytes}
+use Rattle.kl_script.specs.Words.{HasNo, IsEscaped, IsField, IsNumber, IsSplit}
+use Rattle.kl_script.specs.Digits.{IsKey, IsMask, IsShare}
+use Rattle.kl_script.specs.Statics.{IsStatics}
+use Rattle.kl_script.specs.declared.command.Add.{Add}
+use Rattle.kl_script.specs.Commands.{ReplyFields, SpellsAdd, SpellsReply}
 use Rattle.kl_script.proofs.Splitting.{IsSplit-same}
 use Rattle.kl_script.proofs.Escapes.{length-escaped}
 use Rattle.kl_script.proofs.Fields.{length-field}
-use Rattle.kl_quote.specs.Size.{total_bytes}
-use Rattle.kl_states.specs.Names.{IsAgentId, is_agent_id_byte}
-use Rattle.std.proofs.lemmas.Bool.{false≢true}
 
 abbrev nothing : Bor (List ℕ)
 nothing = record { ref_ptr = (0, 0); now = [] }
@@ -23,107 +26,139 @@ bytes_of w = w.now
 abbrev pub word : List (Bor (List ℕ)) → ℕ → List ℕ
 word items i = (get_or items i nothing).now
 
-word_at : (items : List (Bor (List ℕ))) (words : List (List ℕ)) (i : ℕ) → map bytes_of items ≡ words → word items i ≡ get_or words i []
-word_at items words i e = sym (get_or-map bytes_of items i nothing) ∙ ap (λ (ws : List (List ℕ)). get_or ws i []) e
+-- so many places, from one on
+abbrev places : ℕ → ℕ → List ℕ
+places from zero = []
+places from (suc count) = from ∷ places (suc from) count
 
-eight_words : (items : List (Bor (List ℕ))) → length items ≡ 8 → map bytes_of items ≡ word items 0 ∷ word items 1 ∷ word items 2 ∷ word items 3 ∷ word items 4 ∷ word items 5 ∷ word items 6 ∷ word items 7 ∷ []
-eight_words [] len = absurd (omega arith)
-eight_words (a ∷ []) len = absurd (omega arith)
-eight_words (a ∷ b ∷ []) len = absurd (omega arith)
-eight_words (a ∷ b ∷ c ∷ []) len = absurd (omega arith)
-eight_words (a ∷ b ∷ c ∷ d ∷ []) len = absurd (omega arith)
-eight_words (a ∷ b ∷ c ∷ d ∷ e ∷ []) len = absurd (omega arith)
-eight_words (a ∷ b ∷ c ∷ d ∷ e ∷ f ∷ []) len = absurd (omega arith)
-eight_words (a ∷ b ∷ c ∷ d ∷ e ∷ f ∷ g ∷ []) len = absurd (omega arith)
-eight_words (a ∷ b ∷ c ∷ d ∷ e ∷ f ∷ g ∷ h ∷ []) len = refl
-eight_words (a ∷ b ∷ c ∷ d ∷ e ∷ f ∷ g ∷ h ∷ x ∷ more) len = absurd (omega arith)
+-- the words at the first places
+abbrev pub first_words : List (Bor (List ℕ)) → ℕ → List (List ℕ)
+first_words items count = map (word items) (places 0 count)
 
-five_words : (items : List (Bor (List ℕ))) → length items ≡ 5 → map bytes_of items ≡ word items 0 ∷ word items 1 ∷ word items 2 ∷ word items 3 ∷ word items 4 ∷ []
-five_words [] len = absurd (omega arith)
-five_words (a ∷ []) len = absurd (omega arith)
-five_words (a ∷ b ∷ []) len = absurd (omega arith)
-five_words (a ∷ b ∷ c ∷ []) len = absurd (omega arith)
-five_words (a ∷ b ∷ c ∷ d ∷ []) len = absurd (omega arith)
-five_words (a ∷ b ∷ c ∷ d ∷ e ∷ []) len = refl
-five_words (a ∷ b ∷ c ∷ d ∷ e ∷ x ∷ more) len = absurd (omega arith)
+first_words-cons : (x : Bor (List ℕ)) (items : List (Bor (List ℕ))) (from count : ℕ) → map (word (x ∷ items)) (places (suc from) count) ≡ map (word items) (places from count)
+first_words-cons x items from zero = refl
+first_words-cons x items from (suc count) = ap (λ (ws : List (List ℕ)). word items from ∷ ws) (first_words-cons x items (suc from) count)
 
--- the same split, word by word
-pub split_eight : (arguments : List ℕ) (words items : List (Bor (List ℕ))) (policy : List ℕ) → items ≡ words → IsSplit arguments 8 (map bytes_of words) policy
-    → IsSplit arguments 8 (word items 0 ∷ word items 1 ∷ word items 2 ∷ word items 3 ∷ word items 4 ∷ word items 5 ∷ word items 6 ∷ word items 7 ∷ []) policy
-split_eight arguments words items policy e s =
-    let some : length items ≡ 8 = sym (length-map items bytes_of) ∙ ap (λ (ws : List (Bor (List ℕ))). length (map bytes_of ws)) e ∙ s.counted in
-    let here = ap (map bytes_of) (sym e) ∙ eight_words items some in
-    subst (λ (ws : List (List ℕ)). IsSplit arguments 8 ws policy) here s
+first_words-all : (items : List (Bor (List ℕ))) → map bytes_of items ≡ first_words items (length items)
+first_words-all [] = refl
+first_words-all (x ∷ items) = ap (λ (ws : List (List ℕ)). x.now ∷ ws) (first_words-all items ∙ sym (first_words-cons x items 0 (length items)))
 
-pub split_five : (arguments : List ℕ) (words items : List (Bor (List ℕ))) (list : List ℕ) → items ≡ words → IsSplit arguments 5 (map bytes_of words) list
-    → IsSplit arguments 5 (word items 0 ∷ word items 1 ∷ word items 2 ∷ word items 3 ∷ word items 4 ∷ []) list
-split_five arguments words items list e s =
-    let some : length items ≡ 5 = sym (length-map items bytes_of) ∙ ap (λ (ws : List (Bor (List ℕ))). length (map bytes_of ws)) e ∙ s.counted in
-    let here = ap (map bytes_of) (sym e) ∙ five_words items some in
-    subst (λ (ws : List (List ℕ)). IsSplit arguments 5 ws list) here s
+-- a split into words, word by word
+pub split_of : {arguments rest : List ℕ} {count : ℕ} {words items : List (Bor (List ℕ))} → items ≡ words → IsSplit arguments count (map bytes_of words) rest → IsSplit arguments count (first_words items count) rest
+split_of {arguments} {rest} {count} {words} {items} e s =
+    let some : length items ≡ count = sym (length-map items bytes_of) ∙ ap (λ (ws : List (Bor (List ℕ))). length (map bytes_of ws)) e ∙ s.counted in
+    let all : map bytes_of words ≡ first_words items count = ap (map bytes_of) (sym e) ∙ first_words-all items ∙ ap (first_words items) some in
+    subst (λ (ws : List (List ℕ)). IsSplit arguments count ws rest) all s
 
--- the words of an add are those that it is spelled by
-pub record AddWords (items : List (Bor (List ℕ))) (policy : List ℕ) (arguments : List ℕ) (said : AddFields) (s : SpellsAdd arguments said) : Type 0 where
+-- where the words are these, the one at a place spells what that one of these spells
+module _ (items : List (Bor (List ℕ))) (expected : List (List ℕ)) (same : map bytes_of items ≡ expected) where
+  word_at : (i : ℕ) → word items i ≡ get_or expected i []
+  word_at i = sym (get_or-map bytes_of items i nothing) ∙ ap (λ (ws : List (List ℕ)). get_or ws i []) same
+
+  spelled_at : {X : Type 0} (Spells : List ℕ → X → Type 0) (i : ℕ) (x : X) → Spells (get_or expected i []) x → Spells (word items i) x
+  spelled_at {X} Spells i x = subst (λ (w : List ℕ). Spells w x) (sym (word_at i))
+
+-- ---- an add
+
+-- the words and the rest spell its parts
+pub record AreAddWords (items : List (Bor (List ℕ))) (rest : List ℕ) (said : Add) : Type 0 where
   pub agent : word items 0 ≡ said.agent
-  pub contact : word items 1 ≡ s.contact
+  pub named : IsAgentId said.agent
+  pub contact : IsField (word items 1) said.contact
   pub bank : word items 2 ≡ name_of said.bank
-  pub mask : word items 3 ≡ s.mask
-  pub statics : word items 4 ≡ s.statics
-  pub ak : word items 5 ≡ s.ak
-  pub v : word items 6 ≡ s.v
+  pub mask : IsMask (word items 3) said.mask
+  pub statics : IsStatics (word items 4) said.statics
+  pub ak : IsKey (word items 5) said.ak
+  pub v : IsShare (word items 6) said.v
   pub kind : word items 7 ≡ codes "flat"
-  pub policy_is : policy ≡ s.policy
+  pub policy : IsEscaped rest said.policy
 
-pub add_words : (arguments : List ℕ) (words items : List (Bor (List ℕ))) (policy : List ℕ) (said : AddFields) (s : SpellsAdd arguments said) → items ≡ words → IsSplit arguments 8 (map bytes_of words) policy
-    → AddWords items policy arguments said s
-add_words arguments words items policy said s e split =
+pub add_words : {arguments rest : List ℕ} {words items : List (Bor (List ℕ))} (said : Add) → items ≡ words → IsSplit arguments 8 (map bytes_of words) rest → SpellsAdd arguments said → AreAddWords items rest said
+add_words {arguments} {rest} {words} {items} said e split s =
     let expected : List (List ℕ) = said.agent ∷ s.contact ∷ name_of said.bank ∷ s.mask ∷ s.statics ∷ s.ak ∷ s.v ∷ codes "flat" ∷ [] in
-    let same = IsSplit-same arguments 8 (map bytes_of words) expected policy s.policy split s.split in
+    let same = IsSplit-same arguments 8 (map bytes_of words) expected rest s.policy split s.split in
     let here : map bytes_of items ≡ expected = ap (map bytes_of) e ∙ same.0 in record {
-      agent = word_at items expected 0 here;
-      contact = word_at items expected 1 here;
-      bank = word_at items expected 2 here;
-      mask = word_at items expected 3 here;
-      statics = word_at items expected 4 here;
-      ak = word_at items expected 5 here;
-      v = word_at items expected 6 here;
-      kind = word_at items expected 7 here;
-      policy_is = same.1;
+      agent = word_at items expected here 0;
+      named = s.is_agent;
+      contact = spelled_at items expected here IsField 1 said.contact s.is_contact;
+      bank = word_at items expected here 2;
+      mask = spelled_at items expected here IsMask 3 said.mask s.is_mask;
+      statics = spelled_at items expected here IsStatics 4 said.statics s.is_statics;
+      ak = spelled_at items expected here IsKey 5 said.ak s.is_ak;
+      v = spelled_at items expected here IsShare 6 said.v s.is_v;
+      kind = word_at items expected here 7;
+      policy = subst (λ (w : List ℕ). IsEscaped w said.policy) (sym same.1) s.is_policy;
     }
 
--- and those of a reply
-pub record ReplyWords (items : List (Bor (List ℕ))) (list : List ℕ) (arguments : List ℕ) (said : ReplyFields) (s : SpellsReply arguments said) : Type 0 where
+pub spells_add : {arguments rest : List ℕ} {words items : List (Bor (List ℕ))} (said : Add) → items ≡ words → IsSplit arguments 8 (map bytes_of words) rest → AreAddWords items rest said → SpellsAdd arguments said
+spells_add {arguments} {rest} {words} {items} said e split w =
+    let named : first_words items 8 ≡ said.agent ∷ word items 1 ∷ name_of said.bank ∷ word items 3 ∷ word items 4 ∷ word items 5 ∷ word items 6 ∷ codes "flat" ∷ [] = cc (w.agent, w.bank, w.kind) in record {
+      contact = word items 1;
+      mask = word items 3;
+      statics = word items 4;
+      ak = word items 5;
+      v = word items 6;
+      policy = rest;
+      split = subst (λ (ws : List (List ℕ)). IsSplit arguments 8 ws rest) named (split_of e split);
+      is_agent = w.named;
+      is_contact = w.contact;
+      is_mask = w.mask;
+      is_statics = w.statics;
+      is_ak = w.ak;
+      is_v = w.v;
+      is_policy = w.policy;
+    }
+
+-- ---- a reply
+
+pub record AreReplyWords (items : List (Bor (List ℕ))) (rest : List ℕ) (said : ReplyFields) : Type 0 where
   pub poll : word items 0 ≡ codes "1"
-  pub bank : word items 1 ≡ s.bank
-  pub start : word items 2 ≡ s.start
-  pub public : word items 3 ≡ s.public
-  pub quote : word items 4 ≡ s.quote
-  pub list_is : list ≡ s.list
+  pub bank : IsField (word items 1) said.bank
+  pub start : IsNumber (word items 2) said.start
+  pub public : IsField (word items 3) said.public
+  pub quote : IsField (word items 4) said.quote
+  pub list : IsEscaped rest said.list
 
-pub reply_words : (arguments : List ℕ) (words items : List (Bor (List ℕ))) (list : List ℕ) (said : ReplyFields) (s : SpellsReply arguments said) → items ≡ words → IsSplit arguments 5 (map bytes_of words) list
-    → ReplyWords items list arguments said s
-reply_words arguments words items list said s e split =
+pub reply_words : {arguments rest : List ℕ} {words items : List (Bor (List ℕ))} (said : ReplyFields) → items ≡ words → IsSplit arguments 5 (map bytes_of words) rest → SpellsReply arguments said
+    → AreReplyWords items rest said
+reply_words {arguments} {rest} {words} {items} said e split s =
     let expected : List (List ℕ) = codes "1" ∷ s.bank ∷ s.start ∷ s.public ∷ s.quote ∷ [] in
-    let same = IsSplit-same arguments 5 (map bytes_of words) expected list s.list split s.split in
+    let same = IsSplit-same arguments 5 (map bytes_of words) expected rest s.list split s.split in
     let here : map bytes_of items ≡ expected = ap (map bytes_of) e ∙ same.0 in record {
-      poll = word_at items expected 0 here;
-      bank = word_at items expected 1 here;
-      start = word_at items expected 2 here;
-      public = word_at items expected 3 here;
-      quote = word_at items expected 4 here;
-      list_is = same.1;
+      poll = word_at items expected here 0;
+      bank = spelled_at items expected here IsField 1 said.bank s.is_bank;
+      start = spelled_at items expected here IsNumber 2 said.start s.is_start;
+      public = spelled_at items expected here IsField 3 said.public s.is_public;
+      quote = spelled_at items expected here IsField 4 said.quote s.is_quote;
+      list = subst (λ (w : List ℕ). IsEscaped w said.list) (sym same.1) s.is_list;
     }
 
--- a name has no space
+pub spells_reply : {arguments rest : List ℕ} {words items : List (Bor (List ℕ))} (said : ReplyFields) → items ≡ words → IsSplit arguments 5 (map bytes_of words) rest → AreReplyWords items rest said
+    → SpellsReply arguments said
+spells_reply {arguments} {rest} {words} {items} said e split w =
+    let named : first_words items 5 ≡ codes "1" ∷ word items 1 ∷ word items 2 ∷ word items 3 ∷ word items 4 ∷ [] = cc w.poll in record {
+      bank = word items 1;
+      start = word items 2;
+      public = word items 3;
+      quote = word items 4;
+      list = rest;
+      split = subst (λ (ws : List (List ℕ)). IsSplit arguments 5 ws rest) named (split_of e split);
+      is_bank = w.bank;
+      is_start = w.start;
+      is_public = w.public;
+      is_quote = w.quote;
+      is_list = w.list;
+    }
+
+-- the texts of a reply are no longer than what stands behind its name
+pub reply_fits : {arguments : List ℕ} (said : ReplyFields) → SpellsReply arguments said → total_bytes said.bank said.public said.quote said.list ≤ length arguments
+reply_fits {arguments} said s =
+    let long = simp length-append at (ap length s.split.joined) in
+    omega (arith, long, length-field s.bank said.bank s.is_bank, length-field s.public said.public s.is_public, length-field s.quote said.quote s.is_quote, length-escaped s.list said.list s.is_list)
+
+-- ---- a name has no space
+
 pub agent_has_no_space : (bytes : List ℕ) → IsAgentId bytes → HasNo 32 bytes
 agent_has_no_space bytes named i lt e =
     let passes : is_agent_id_byte 32 ≡ true = subst (λ (b : ℕ). is_agent_id_byte b ≡ true) e (named.each i 0 lt) in
     false≢true passes
-
--- the texts of a reply are no longer than its line
-pub reply_fits : (arguments bank start public quote list : List ℕ) (bank_text public_text quote_text list_text : List ℕ) → IsSplit arguments 5 (codes "1" ∷ bank ∷ start ∷ public ∷ quote ∷ []) list
-    → IsField bank bank_text → IsField public public_text → IsField quote quote_text → IsEscaped list list_text
-    → total_bytes bank_text public_text quote_text list_text ≤ length arguments
-reply_fits arguments bank start public quote list bank_text public_text quote_text list_text s b p q l =
-    let long = simp length-append at (ap length s.joined) in
-    omega (arith, long, length-field bank bank_text b, length-field public public_text p, length-field quote quote_text q, length-escaped list list_text l)

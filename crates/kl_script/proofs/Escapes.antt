@@ -1,5 +1,5 @@
 -- What is written spells one text, and how far a reader has come.
-use Rattle.std.proofs.Common.{◌≡◌, ◌≢◌, inl, inr, ℕ, ◌+◌, ◌<◌, ◌≤◌, List, [], ◌∷◌, ◌++◌, length, refl, sym, ap, subst, ◌∙◌, append_assoc, arith, length-append}
+use Rattle.std.proofs.Common.{◌≡◌, ◌≢◌, inl, inr, ℕ, ◌<◌, ◌≤◌, List, [], ◌∷◌, ◌++◌, length, refl, sym, ap, subst, ◌∙◌, append_assoc, arith, length-append}
 use Rattle.std.proofs.lemmas.List.{append-nil}
 use Rattle.kl_script.specs.Words.{HasNo, StandsFor, SpellsByte, IsEscaped}
 use Rattle.kl_script.proofs.Splitting.{heads, tails, HasNo-head, HasNo-tail}
@@ -92,9 +92,6 @@ plain_back (x ∷ xs) rest whole p h =
 pub record ReadsOn (written rest done : List ℕ) : Type 0 where
   pub on : (text : List ℕ) → IsEscaped rest text → IsEscaped written (done ++ text)
   pub back : (whole : List ℕ) → IsEscaped written whole → (text : List ℕ) × (whole ≡ done ++ text) × IsEscaped rest text
-
-pub ReadsOn-start : (written : List ℕ) → ReadsOn written written []
-ReadsOn-start written = record { on = λ text h. h; back = λ whole h. (whole, refl, h) }
 
 pub ReadsOn-stretch : (written rest done stretch behind : List ℕ) → ReadsOn written rest done → rest ≡ stretch ++ behind → IsPlain stretch → ReadsOn written behind (done ++ stretch)
 ReadsOn-stretch written rest done stretch behind r e p = record {

@@ -1,15 +1,16 @@
 -- How a part on a fixed PCR is cut, and that it spells one value.
 use Rattle.std.proofs.Common.{◌≡◌, ◌≢◌, inl, inr, ℕ, zero, suc, ◌<◌, ◌≤◌, ◌^◌, List, [], ◌∷◌, ◌++◌, sym, ap, subst, ◌∙◌, arith, lit<}
+use Rattle.std.specs.List.{AllZip}
 use Rattle.std.specs.Fmt.{decimal}
 use Rattle.std.proofs.lemmas.Fmt.{decimal_injective}
 use Rattle.hex.proofs.HexLemmas.{decode_of-same}
 use Rattle.kl_pcr.specs.declared.statics.Static.{Static}
 use Rattle.kl_script.specs.Words.{HasNo}
 use Rattle.kl_script.specs.Digits.{IsDigest}
-use Rattle.kl_script.specs.Statics.{AreSpelled, IsStatic, IsStatics, pieces_at}
+use Rattle.kl_script.specs.Statics.{IsStatic, IsStatics, pieces_at}
 use Rattle.kl_script.proofs.Splitting.{same_word, no_word}
 use Rattle.kl_script.proofs.Decimals.{decimal_has_no}
-use Rattle.kl_script.proofs.Pieces.{AreSpelled-same}
+use Rattle.kl_script.proofs.Zips.{AllZip-same}
 
 number_has_no_sign : (fixed : Static) → fixed.pcr ≤ 23 → HasNo 61 (decimal fixed.pcr)
 number_has_no_sign fixed le = decimal_has_no 61 fixed.pcr (omega arith) (lit< tt)
@@ -32,7 +33,7 @@ IsStatic-same : (written : List ℕ) (x y : Static) → IsStatic written x → I
 IsStatic-same written x y g h =
     let cut = static_cut written (decimal x.pcr) g.0 y g.2 (number_has_no_sign x g.1) h in
     let pcr : x.pcr ≡ y.pcr = decimal_injective x.pcr y.pcr (omega (arith, g.1)) (omega (arith, h.1)) cut.0 in
-    let allowed : x.allowed ≡ y.allowed = AreSpelled-same IsDigest IsDigest-same (pieces_at 44 g.0) x.allowed y.allowed g.3 (subst (λ (d : List ℕ). AreSpelled IsDigest (pieces_at 44 d) y.allowed) (sym cut.1) h.3) in
+    let allowed : x.allowed ≡ y.allowed = AllZip-same IsDigest IsDigest-same (pieces_at 44 g.0) x.allowed y.allowed g.3 (subst (λ (d : List ℕ). AllZip IsDigest (pieces_at 44 d) y.allowed) (sym cut.1) h.3) in
     let made : ℕ → List (List ℕ) → Static = λ p a. record { pcr = p; allowed = a } in
     ap (λ (p : ℕ). made p x.allowed) pcr ∙ ap (λ (a : List (List ℕ)). made y.pcr a) allowed
 
@@ -41,12 +42,12 @@ dash_has_no_sign zero lt e = absurd (omega (arith, e))
 dash_has_no_sign (suc i) lt e = absurd (omega arith)
 
 -- `-` alone is no part
-no_dash : (statics : List Static) → ¬ (AreSpelled IsStatic ((45 ∷ []) ∷ []) statics)
+no_dash : (statics : List Static) → ¬ (AllZip IsStatic ((45 ∷ []) ∷ []) statics)
 no_dash [] h = h
 no_dash (x ∷ xs) h = static_uncut (45 ∷ []) x dash_has_no_sign h.0
 
 pub IsStatics-same : (written : List ℕ) (xs ys : List Static) → IsStatics written xs → IsStatics written ys → xs ≡ ys
 IsStatics-same written xs ys (inl g) (inl h) = g.1 ∙ sym h.1
-IsStatics-same written xs ys (inl g) (inr h) = absurd (no_dash ys (subst (λ (w : List ℕ). AreSpelled IsStatic (pieces_at 59 w) ys) g.0 h))
-IsStatics-same written xs ys (inr g) (inl h) = absurd (no_dash xs (subst (λ (w : List ℕ). AreSpelled IsStatic (pieces_at 59 w) xs) h.0 g))
-IsStatics-same written xs ys (inr g) (inr h) = AreSpelled-same IsStatic IsStatic-same (pieces_at 59 written) xs ys g h
+IsStatics-same written xs ys (inl g) (inr h) = absurd (no_dash ys (subst (λ (w : List ℕ). AllZip IsStatic (pieces_at 59 w) ys) g.0 h))
+IsStatics-same written xs ys (inr g) (inl h) = absurd (no_dash xs (subst (λ (w : List ℕ). AllZip IsStatic (pieces_at 59 w) xs) h.0 g))
+IsStatics-same written xs ys (inr g) (inr h) = AllZip-same IsStatic IsStatic-same (pieces_at 59 written) xs ys g h

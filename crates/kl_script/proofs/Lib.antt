@@ -3,7 +3,7 @@ pub mod Escapes
 pub mod Decimals
 pub mod Fields
 pub mod Masks
-pub mod Pieces
+pub mod Zips
 pub mod Faults
 pub mod Fixed
 pub mod Arguments

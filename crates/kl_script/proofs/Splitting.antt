@@ -61,9 +61,6 @@ spaceless-push : (words : List (List ℕ)) (word : List ℕ) → AllByRecursion 
 spaceless-push [] word h p = (p, tt)
 spaceless-push (w ∷ ws) word h p = (h.0, spaceless-push ws word h.1 p)
 
-pub IsSplit-none : (text : List ℕ) → IsSplit text 0 [] text
-IsSplit-none text = record { counted = refl; spaceless = tt; joined = refl }
-
 pub IsSplit-more : (text : List ℕ) (count : ℕ) (words : List (List ℕ)) (rest word behind : List ℕ) → IsSplit text count words rest → rest ≡ word ++ 32 ∷ behind → HasNo 32 word
     → IsSplit text (count + 1) (words ++ word ∷ []) behind
 IsSplit-more text count words rest word behind s e h = record {

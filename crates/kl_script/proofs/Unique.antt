@@ -1,5 +1,5 @@
 -- A line spells at most one command.
-use Rattle.std.proofs.Common.{◌≡◌, ◌≢◌, ℕ, ◌==◌, true, false, not, List, [], ◌∷◌, length, get_or, Option, Some, None, Result, Ok, Err, codes, refl, sym, ap, subst, ◌∙◌, arith}
+use Rattle.std.proofs.Common.{◌≡◌, ◌≢◌, ℕ, ◌==◌, true, not, List, [], ◌∷◌, length, get_or, Option, Some, None, Result, Ok, Err, codes, refl, sym, ap, subst, ◌∙◌, arith}
 use Rattle.std.specs.Prelude.{IfOk}
 use Rattle.std.specs.List.{list_all}
 use Rattle.std.specs.Str.Parse.{digits_value}
@@ -17,7 +17,9 @@ use Rattle.kl_script.specs.declared.command.Command.{Command}
 use Rattle.kl_script.specs.Words.{HasNo, IsEscaped, IsField, IsNumber}
 use Rattle.kl_script.specs.Digits.{IsKey, IsMask, IsShare}
 use Rattle.kl_script.specs.Statics.{IsStatics}
-use Rattle.kl_script.specs.Commands.{AddFields, BeginFields, ReplyFields, CommandFields, add, begin, reply, fields, SpellsAdd, SpellsBegin, SpellsReply, SpellsArguments, Spells, IsRead, name_of_command}
+use Rattle.kl_script.specs.declared.command.Add.{Add}
+use Rattle.kl_script.specs.declared.command.Begin.{Begin}
+use Rattle.kl_script.specs.Commands.{ReplyFields, CommandFields, add, begin, reply, fields, SpellsAdd, SpellsBegin, SpellsReply, SpellsArguments, Spells, IsRead, name_of_command}
 use Rattle.kl_script.proofs.Splitting.{heads, tails, same_word, IsSplit-same}
 use Rattle.kl_script.proofs.Escapes.{IsEscaped-same}
 use Rattle.kl_script.proofs.Fields.{IsField-same}
@@ -53,7 +55,7 @@ IsNumber-same written m n g h = decimal_injective m n g.0 h.0 (sym g.1 ∙ h.1)
 
 -- ---- the arguments spell one command
 
-SpellsAdd-same : (arguments : List ℕ) (a b : AddFields) → SpellsAdd arguments a → SpellsAdd arguments b → a ≡ b
+SpellsAdd-same : (arguments : List ℕ) (a b : Add) → SpellsAdd arguments a → SpellsAdd arguments b → a ≡ b
 SpellsAdd-same arguments a b s t =
     let expected : List (List ℕ) = a.agent ∷ s.contact ∷ name_of a.bank ∷ s.mask ∷ s.statics ∷ s.ak ∷ s.v ∷ codes "flat" ∷ [] in
     let others : List (List ℕ) = b.agent ∷ t.contact ∷ name_of b.bank ∷ t.mask ∷ t.statics ∷ t.ak ∷ t.v ∷ codes "flat" ∷ [] in
@@ -73,15 +75,15 @@ SpellsAdd-same arguments a b s t =
     let ak : a.ak ≡ b.ak = decode_of-same t.ak a.ak b.ak (subst (λ w. IsKey w a.ak) (heads e5) s.is_ak).2 t.is_ak.2 in
     let v : a.v ≡ b.v = IsShare-same t.v a.v b.v (subst (λ w. IsShare w a.v) (heads e6) s.is_v) t.is_v in
     let policy : a.policy ≡ b.policy = IsEscaped-same t.policy a.policy b.policy (subst (λ w. IsEscaped w a.policy) same.1 s.is_policy) t.is_policy in
-    let made : List ℕ → List ℕ → Bank → ℕ → List Static → List ℕ → Option (List ℕ) → List ℕ → AddFields =
+    let made : List ℕ → List ℕ → Bank → ℕ → List Static → List ℕ → Option (List ℕ) → List ℕ → Add =
     λ agent contact bank mask statics ak v policy. record { agent = agent; contact = contact; bank = bank; mask = mask; statics = statics; ak = ak; v = v; policy = policy } in
     let whole : made a.agent a.contact a.bank a.mask a.statics a.ak a.v a.policy ≡ made b.agent b.contact b.bank b.mask b.statics b.ak b.v b.policy = cc in
     whole
 
-SpellsBegin-same : (arguments : List ℕ) (a b : BeginFields) → SpellsBegin arguments a → SpellsBegin arguments b → a ≡ b
+SpellsBegin-same : (arguments : List ℕ) (a b : Begin) → SpellsBegin arguments a → SpellsBegin arguments b → a ≡ b
 SpellsBegin-same arguments a b s t =
     let same = same_word 32 a.agent b.agent a.nonce b.nonce (agent_has_no_space a.agent s.is_agent) (agent_has_no_space b.agent t.is_agent) (sym s.split ∙ t.split) in
-    let made : List ℕ → List ℕ → BeginFields = λ agent nonce. record { agent = agent; nonce = nonce } in
+    let made : List ℕ → List ℕ → Begin = λ agent nonce. record { agent = agent; nonce = nonce } in
     ap (λ agent. made agent a.nonce) same.0 ∙ ap (λ nonce. made b.agent nonce) same.1
 
 SpellsReply-same : (arguments : List ℕ) (a b : ReplyFields) → SpellsReply arguments a → SpellsReply arguments b → a ≡ b
@@ -103,8 +105,8 @@ SpellsReply-same arguments a b s t =
     whole
 
 SpellsArguments-same : (arguments : List ℕ) (x y : CommandFields) → name_of_command x ≡ name_of_command y → SpellsArguments arguments x → SpellsArguments arguments y → x ≡ y
-SpellsArguments-same arguments (add a) (add b) e s t = ap (λ (f : AddFields). add f) (SpellsAdd-same arguments a b s t)
-SpellsArguments-same arguments (begin a) (begin b) e s t = ap (λ (f : BeginFields). begin f) (SpellsBegin-same arguments a b s t)
+SpellsArguments-same arguments (add a) (add b) e s t = ap (λ (f : Add). add f) (SpellsAdd-same arguments a b s t)
+SpellsArguments-same arguments (begin a) (begin b) e s t = ap (λ (f : Begin). begin f) (SpellsBegin-same arguments a b s t)
 SpellsArguments-same arguments (reply a) (reply b) e s t = ap (λ (f : ReplyFields). reply f) (SpellsReply-same arguments a b s t)
 SpellsArguments-same arguments (add a) (begin b) e s t = absurd (omega (arith, heads e))
 SpellsArguments-same arguments (add a) (reply b) e s t = absurd (omega (arith, heads e))

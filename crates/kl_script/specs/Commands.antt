@@ -1,9 +1,7 @@
 -- The commands of a script, and the lines that spell them.
-use Rattle.std.specs.Prelude.{◌≡◌, ℕ, List, [], ◌∷◌, ◌++◌, codes, Option, Result, Ok, Err, IsUtf8, ⊤}
+use Rattle.std.specs.Prelude.{◌≡◌, ℕ, List, [], ◌∷◌, ◌++◌, codes, Result, Ok, Err, IsUtf8, ⊤}
 use Rattle.kl_states.specs.Names.{IsAgentId, IsNonce}
-use Rattle.kl_bank.specs.declared.bank.Bank.{Bank}
 use Rattle.kl_bank.specs.Banks.{name_of}
-use Rattle.kl_pcr.specs.declared.statics.Static.{Static}
 use Rattle.kl_script.specs.declared.fault.CommandFault.{CommandFault}
 use Rattle.kl_script.specs.declared.fault.CommandFault.TheVariants.{NoCommand, Memory}
 use Rattle.kl_script.specs.declared.command.Command.{Command}
@@ -15,22 +13,9 @@ use Rattle.kl_script.specs.Words.{IsSplit, IsEscaped, IsField, IsNumber}
 use Rattle.kl_script.specs.Digits.{IsKey, IsMask, IsShare}
 use Rattle.kl_script.specs.Statics.{IsStatics}
 
--- ---- what a command says, apart from where it lies in memory
+-- ---- what a command says
 
-pub record AddFields : Type 0 where
-  pub agent : List ℕ
-  pub contact : List ℕ
-  pub bank : Bank
-  pub mask : ℕ
-  pub statics : List Static
-  pub ak : List ℕ
-  pub v : Option (List ℕ)
-  pub policy : List ℕ
-
-pub record BeginFields : Type 0 where
-  pub agent : List ℕ
-  pub nonce : List ℕ
-
+-- of a reply its parts, apart from their bound together
 pub record ReplyFields : Type 0 where
   pub bank : List ℕ
   pub start : ℕ
@@ -39,28 +24,22 @@ pub record ReplyFields : Type 0 where
   pub list : List ℕ
 
 pub data CommandFields : Type 0 where
-  add : AddFields → CommandFields
-  begin : BeginFields → CommandFields
+  add : Add → CommandFields
+  begin : Begin → CommandFields
   reply : ReplyFields → CommandFields
-
-abbrev pub add_fields : Add → AddFields
-add_fields a = record { agent = a.agent; contact = a.contact; bank = a.bank; mask = a.mask; statics = a.statics; ak = a.ak; v = a.v; policy = a.policy }
-
-abbrev pub begin_fields : Begin → BeginFields
-begin_fields b = record { agent = b.agent; nonce = b.nonce }
 
 abbrev pub reply_fields : Reply → ReplyFields
 reply_fields r = record { bank = r.evidence.bank; start = r.evidence.start; public = r.evidence.public; quote = r.evidence.quote; list = r.evidence.list }
 
 abbrev pub fields : Command → CommandFields
-fields (commands.Add a) = add (add_fields a)
-fields (commands.Begin b) = begin (begin_fields b)
+fields (commands.Add a) = add a
+fields (commands.Begin b) = begin b
 fields (commands.Reply r) = reply (reply_fields r)
 
 -- ---- what stands behind the command's name and a space
 
 -- the agent, contact, bank, mask, statics, attestation key, V and kind of policy, and the policy as a rest
-pub record SpellsAdd (arguments : List ℕ) (said : AddFields) : Type 0 where
+pub record SpellsAdd (arguments : List ℕ) (said : Add) : Type 0 where
   pub contact : List ℕ
   pub mask : List ℕ
   pub statics : List ℕ
@@ -77,7 +56,7 @@ pub record SpellsAdd (arguments : List ℕ) (said : AddFields) : Type 0 where
   pub is_policy : IsEscaped policy said.policy
 
 -- the agent and the nonce
-pub record SpellsBegin (arguments : List ℕ) (said : BeginFields) : Type 0 where
+pub record SpellsBegin (arguments : List ℕ) (said : Begin) : Type 0 where
   pub split : arguments ≡ said.agent ++ 32 ∷ said.nonce
   pub is_agent : IsAgentId said.agent
   pub is_nonce : IsNonce said.nonce

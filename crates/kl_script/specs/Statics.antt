@@ -1,6 +1,6 @@
 -- How the PCRs whose values are fixed stand in a line.
-use Rattle.std.specs.Prelude.{◌≡◌, ◌⊎◌, ℕ, ◌≤◌, ◌==◌, List, [], ◌∷◌, ◌++◌, codes, ⊤}
-use Rattle.std.specs.List.{slice_split}
+use Rattle.std.specs.Prelude.{◌≡◌, ◌⊎◌, ℕ, ◌≤◌, ◌==◌, List, [], ◌∷◌, ◌++◌, codes}
+use Rattle.std.specs.List.{AllZip, slice_split}
 use Rattle.std.specs.Fmt.{decimal}
 use Rattle.kl_script.specs.Digits.{IsDigest}
 use Rattle.kl_pcr.specs.declared.statics.Static.{Static}
@@ -9,17 +9,10 @@ use Rattle.kl_pcr.specs.declared.statics.Static.{Static}
 abbrev pub pieces_at : ℕ → List ℕ → List (List ℕ)
 pieces_at byte text = slice_split (λ b. b == byte) text
 
--- each piece spells the value in its place
-abbrev pub AreSpelled : {X : Type 0} → (List ℕ → X → Type 0) → List (List ℕ) → List X → Type 0
-AreSpelled IsSpelled [] [] = ⊤
-AreSpelled IsSpelled [] (x ∷ xs) = ⊥
-AreSpelled IsSpelled (piece ∷ pieces) [] = ⊥
-AreSpelled IsSpelled (piece ∷ pieces) (x ∷ xs) = IsSpelled piece x × AreSpelled IsSpelled pieces xs
-
 -- a PCR's number, from 0 to 23 without a leading zero, an equals sign, and its digests between commas
 abbrev pub IsStatic : List ℕ → Static → Type 0
-IsStatic written fixed = (digests : List ℕ) × (fixed.pcr ≤ 23) × (written ≡ decimal fixed.pcr ++ 61 ∷ digests) × AreSpelled IsDigest (pieces_at 44 digests) fixed.allowed
+IsStatic written fixed = (digests : List ℕ) × (fixed.pcr ≤ 23) × (written ≡ decimal fixed.pcr ++ 61 ∷ digests) × AllZip IsDigest (pieces_at 44 digests) fixed.allowed
 
 -- the parts between semicolons, or `-` where there is none
 abbrev pub IsStatics : List ℕ → List Static → Type 0
-IsStatics written statics = ((written ≡ codes "-") × (statics ≡ [])) ⊎ AreSpelled IsStatic (pieces_at 59 written) statics
+IsStatics written statics = ((written ≡ codes "-") × (statics ≡ [])) ⊎ AllZip IsStatic (pieces_at 59 written) statics

@@ -1,6 +1,6 @@
 //! Hexadecimal words.
 
-ghost use Rattle.std.specs.Prelude.{◌≡◌, ◌≤◌, ◌^◌, ◌<◌, List, ℕ, Option, IfOk, IfSome, IfNone, Err, Some, None};
+ghost use Rattle.std.specs.Prelude.{◌≡◌, List, ℕ, Option, IfOk, IfSome, IfNone, Err};
 ghost use Rattle.kl_script.specs.Digits.{IsDigest, IsHex, IsKey, IsMask, IsShare};
 
 use crate::fault::CommandFault;

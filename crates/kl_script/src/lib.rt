@@ -5,6 +5,7 @@ mod command;
 mod digits;
 mod fault;
 mod numbers;
+mod pieces;
 mod reading;
 mod statics;
 mod words;

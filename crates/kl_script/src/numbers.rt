@@ -1,6 +1,6 @@
 //! Numbers of a line.
 
-ghost use Rattle.std.specs.Prelude.{◌≡◌, ℕ, IfSome, IfNone};
+ghost use Rattle.std.specs.Prelude.{ℕ, IfSome, IfNone};
 ghost use Rattle.kl_script.specs.Words.{IsNumber};
 
 /// A decimal number below 2^64, without sign or leading zero; zero is `0`.

@@ -1,7 +1,9 @@
 //! Lines as commands.
 
 ghost use Rattle.std.specs.Prelude.{◌≡◌, ◌≤◌, ℕ, List, IfOk, Err, length};
-ghost use Rattle.kl_script.specs.Commands.{AddFields, BeginFields, ReplyFields, CommandFields, SpellsAdd, SpellsBegin, SpellsReply, Spells, IsRead, fields, add_fields, begin_fields, reply_fields};
+ghost use Rattle.kl_script.specs.declared.command.Add.{Add as AnyAdd};
+ghost use Rattle.kl_script.specs.declared.command.Begin.{Begin as AnyBegin};
+ghost use Rattle.kl_script.specs.Commands.{ReplyFields, CommandFields, SpellsAdd, SpellsBegin, SpellsReply, Spells, IsRead, fields, reply_fields};
 
 use crate::command::{Add, Begin, Command, Reply};
 use crate::digits::{read_key, read_mask, read_share};
@@ -16,8 +18,8 @@ use std::alloc::Global;
 
 /// What stands behind `add`.
 fn read_add(alloc: Global, arguments: &str) -> Result<Add, CommandFault>
-    ensures found { IfOk result (λ add. SpellsAdd arguments.now (add_fields add)) }
-    ensures none { result ≡ Err CommandFault.NoCommand → (said : AddFields) → ¬ (SpellsAdd arguments.now said) }
+    ensures found { IfOk result (λ add. SpellsAdd arguments.now add) }
+    ensures none { result ≡ Err CommandFault.NoCommand → (said : AnyAdd) → ¬ (SpellsAdd arguments.now said) }
 {
     let (words, policy) = split_words(alloc, arguments, 8)?;
     let &[agent, contact, bank, mask, statics, ak, v, kind] = words.as_slice() else {
@@ -54,8 +56,8 @@ fn read_add(alloc: Global, arguments: &str) -> Result<Add, CommandFault>
 
 /// What stands behind `begin`.
 fn read_begin(arguments: &str) -> Result<Begin, CommandFault>
-    ensures found { IfOk result (λ begin. SpellsBegin arguments.now (begin_fields begin)) }
-    ensures none { result ≡ Err CommandFault.NoCommand → (said : BeginFields) → ¬ (SpellsBegin arguments.now said) }
+    ensures found { IfOk result (λ begin. SpellsBegin arguments.now begin) }
+    ensures none { result ≡ Err CommandFault.NoCommand → (said : AnyBegin) → ¬ (SpellsBegin arguments.now said) }
 {
     let (agent, nonce) = cut_at(arguments, ' ')?;
     let Some(agent) = AgentId::from_bytes(agent.as_bytes()) else {

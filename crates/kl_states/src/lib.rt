@@ -6,12 +6,16 @@ mod agent_id;
 mod blob;
 mod name;
 mod nonce;
+mod op;
+mod outcome;
 mod text;
 mod verdict;
 
 pub use agent_id::AgentId;
 pub use blob::Blob;
 pub use nonce::Nonce;
+pub use op::{Op, State, may_begin, may_release};
+pub use outcome::{DropWhy, LostWhy, Outcome};
 pub use text::Text;
 pub use verdict::{AttestCause, EntryCause, FailedCause, InvalidCause, LineCause, Verdict};
 

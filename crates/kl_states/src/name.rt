@@ -1,6 +1,7 @@
 ghost use Rattle.std.specs.Prelude.{◌≡◌, ◌≤◌, length};
 ghost use Rattle.std.specs.Str.{IsAscii};
 
+use kl_base::Short;
 use std::marker::Model;
 
 /// The most bytes that a name has.
@@ -9,22 +10,20 @@ pub const MAX_LEN: usize = 64;
 /// At most 64 ASCII bytes, held in place so that a name can be copied.
 #[derive(Clone, Copy, Debug)]
 pub struct Name {
-    bytes: [u8; MAX_LEN],
-    len: usize,
+    short: Short<MAX_LEN>,
 }
 
 impl Model for Name {
     ghost use Rattle.std.specs.Prelude.{ℕ, List};
+    ghost use Rattle.std.specs.Str.{IsAscii};
 
     ghost Value = { List ℕ };
 
-    ghost use Rattle.kl_states.specs.Padded.{bytes_of, IsPadded, in_memory};
+    ghost view = { λ name. name.short };
 
-    ghost view = { bytes_of };
+    ghost invariant = { λ name. IsAscii name.short };
 
-    ghost invariant = { IsPadded };
-
-    ghost inverse = { in_memory };
+    ghost inverse = { λ bytes. record { short = bytes } };
 }
 
 impl Name {
@@ -34,11 +33,8 @@ impl Name {
         requires ascii { IsAscii text.now }
         ensures { result ≡ text.now }
     {
-        let mut bytes = [0; MAX_LEN];
-        bytes[..text.len()].copy_from_slice(text);
         Name {
-            bytes,
-            len: text.len(),
+            short: Short::new(text),
         }
     }
 
@@ -46,14 +42,14 @@ impl Name {
     pub fn as_slice(&self) -> &[u8]
         ensures { result.now ≡ self.now }
     {
-        &self.bytes[..self.len]
+        self.short.as_slice()
     }
 
     /// The same as text.
     pub fn as_str(&self) -> &str
         ensures { result.now ≡ self.now }
     {
-        let bytes = &self.bytes[..self.len];
+        let bytes = self.short.as_slice();
         // The type keeps that the bytes are ASCII.
         unsafe { str::from_utf8_unchecked(bytes) }
     }

@@ -1,6 +1,5 @@
 use Rattle.std.proofs.Common.{arith}
-use Rattle.kl_attest.proofs.Quotes.{is_found, is_only}
-use Rattle.kl_attest.proofs.FirstFaults.{is_fault, is_alone}
+use Rattle.kl_attest.proofs.FirstFaults.{is_found, is_only, is_fault, is_alone}
 use Rattle.kl_attest.proofs.reading.read_attest.Goals as goal
 
 pub returns-clause-found : goal.returns-clause-found

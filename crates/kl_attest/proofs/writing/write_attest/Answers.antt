@@ -1,8 +1,8 @@
-use Rattle.std.proofs.Common.{ℕ, List, ◌++◌, ◌∙◌, ap, arith}
-use Rattle.std.specs.Int.{w16, w32, w64, to_be_bytes}
-use Rattle.kl_attest.specs.Grammar.{magic, attest_quote, sized, clock_text, selections_text, text_of, IsSelection, IsQuoted}
-use Rattle.kl_attest.specs.Views.{quoted_of}
-use Rattle.kl_attest.proofs.Joins.{whole}
+use Rattle.std.proofs.Common.{ℕ, List, ◌++◌, ◌∷◌, [], ◌∙◌, ap, arith}
+use Rattle.std.specs.Int.{w16, w64}
+use Rattle.kl_attest.specs.Grammar.{Field, number, counted, header_fields, clock_fields, selections_fields, text_of, joined, IsSelection, IsQuoted}
+use Rattle.kl_attest.specs.Views.{quoted_of, selections_of}
+use Rattle.kl_attest.proofs.Joins.{put_one, put_more}
 use Rattle.kl_attest.proofs.Masks.{mask_set, three_of, three_fit}
 use Rattle.kl_attest.proofs.writing.write_attest.Goals as goal
 
@@ -29,11 +29,13 @@ returns-clause-spelled c =
       selections = (one, tt);
       pcr_digest = digest.fits;
     } in
-    let text =
-    whole (to_be_bytes w32 magic) (to_be_bytes w16 attest_quote) (sized p.signer.now) (sized p.extra.now) (clock_text p.clock p.reset p.restart p.safe) (to_be_bytes w64 p.firmware)
-    (selections_text (quoted_of p).selections) (sized p.pcr_digest.now)
-    c.new-out.result.items c.put_head.new.out.items c.put_clock.new.out.items c.extend_from_slice.new.self.items c.put_selection.new.out.items c.put_sized.new.out.items
-    c.new-out.ensures.items head.text clock.text
-    (c.in_ok-extend_from_slice.ensures.items ∙ ap (λ (t : List ℕ). c.put_clock.new.out.items ++ t) c.to_be_bytes.ensures)
-    selection.text digest.text in
-    record { fits = ok; text = text }
+    let front : List Field = header_fields ++ counted w16 p.signer.now ++ counted w16 p.extra.now in
+    let times : List Field = clock_fields p.clock p.reset p.restart p.safe in
+    let firmware : List Field = number w64 p.firmware ∷ [] in
+    let chosen : List Field = selections_fields (selections_of p) in
+    let start : List ℕ = c.new-out.result.items in
+    let x1 = put_more front times start c.put_head.new.out.items _ head.text clock.text in
+    let x2 = put_more (front ++ times) firmware start c.put_clock.new.out.items _ x1 (put_one (number w64 p.firmware) _ c.extend_from_slice.new.self.items _ c.in_ok-extend_from_slice.ensures.items c.to_be_bytes.ensures) in
+    let x3 = put_more (front ++ times ++ firmware) chosen start c.extend_from_slice.new.self.items _ x2 selection.text in
+    let x4 = put_more (front ++ times ++ firmware ++ chosen) (counted w16 p.pcr_digest.now) start c.put_selection.new.out.items _ x3 digest.text in
+    record { fits = ok; text = x4 ∙ ap (λ (t : List ℕ). t ++ joined (front ++ times ++ firmware ++ chosen ++ counted w16 p.pcr_digest.now)) c.new-out.ensures.items }

@@ -4,5 +4,5 @@ use Rattle.kl_entry.proofs.reading.read_entry.Goals as goal
 pub returns-clause-only : goal.returns-clause-only
 returns-clause-only c = only_entry c.args.line.now c.first_fault.result c.first_fault.ensures.found c.first_fault.ensures.fault
 
-pub returns-clause-exact : goal.returns-clause-exact
-returns-clause-exact c = only_fault c.args.line.now c.first_fault.result c.first_fault.ensures.found c.first_fault.ensures.fault
+pub returns-clause-alone : goal.returns-clause-alone
+returns-clause-alone c = only_fault c.args.line.now c.first_fault.result c.first_fault.ensures.found c.first_fault.ensures.fault

@@ -1,8 +1,7 @@
-use Rattle.std.proofs.Common.{◌≡◌, ◌+◌, ℕ, List, take, ap, sym, ◌∙◌, arith, subst}
-use Rattle.std.proofs.lemmas.List.{take_rest}
+use Rattle.std.proofs.Common.{◌≡◌, List, ℕ, take, ap, sym, ◌∙◌, arith, subst}
 use Rattle.kl_entry.proofs.Cuts.{range_from_start}
 use Rattle.kl_entry.specs.Lines.{IsName}
-use Rattle.kl_entry.proofs.Parts.{name_is, name_missed, digits_missed, cut_behind}
+use Rattle.kl_entry.proofs.Parts.{cut_after, name_is, name_missed, digits_missed}
 use Rattle.kl_entry.proofs.reading.split_digest.Goals as goal
 use Rattle.kl_entry.proofs.reading.split_digest.Goals.{then-len-eq0-via-then-len-eq0, then-len-eq0-via-else-len-eq0+then-len-gt-MAX_NAME, then-len-eq0-via-else-len-eq0+else-len-gt-MAX_NAME+then-len-bytes, then-len-eq0-via-else-len-eq0+else-len-gt-MAX_NAME+else-len-bytes+then-bytes-len-ne58}
 
@@ -18,7 +17,7 @@ returns-then-len-eq0-clause-none c =
     ]
 
 pub range_from-requires : goal.range_from-requires
-range_from-requires c = λ _. cut_behind c.args.text.now c.as_bytes-bytes.result.now _ c.name_len-len.result _ c.as_bytes-bytes.ensures.utf8 c.as_bytes-bytes.ensures.value (take_rest c.as_bytes-bytes.result.now (c.name_len-len.result + 1)) c.in-Some.ensures.place c.in-Some.ensures.space
+range_from-requires c = λ _. cut_after c.args.text.now c.as_bytes-bytes.result.now c.name_len-len.result 58 c.as_bytes-bytes.ensures.utf8 c.as_bytes-bytes.ensures.value (omega arith) c.if-bytes-len-ne58.false (omega arith)
 
 pub returns-in-Some-clause-name : goal.returns-in-Some-clause-name
 returns-in-Some-clause-name c =
@@ -27,4 +26,4 @@ returns-in-Some-clause-name c =
     subst IsName (sym same) (name_is c.as_bytes-bytes.result.now c.name_len-len.result c.name_len-len.ensures (omega (arith, c.if-len-eq0.false)) c.if-len-gt-MAX_NAME.false c.if-len-bytes.false)
 
 pub returns-in-None-clause-none : goal.returns-in-None-clause-none
-returns-in-None-clause-none c = λ name digits rest. digits_missed c.args.text.now c.as_bytes-bytes.result.now _ name digits rest c.name_len-len.result c.as_bytes-bytes.ensures.value c.name_len-len.ensures (take_rest c.as_bytes-bytes.result.now (c.name_len-len.result + 1)) c.in-None.ensures.none
+returns-in-None-clause-none c = λ name digits rest. digits_missed c.args.text.now c.as_bytes-bytes.result.now c.range_from.result.now name digits rest c.name_len-len.result c.as_bytes-bytes.ensures.value c.name_len-len.ensures c.range_from.ensures.value c.in-None.ensures.none

@@ -1,4 +1,4 @@
-use Rattle.std.proofs.Common.{◌≢◌, length, lit<, sym, ◌∙◌, true, false}
+use Rattle.std.proofs.Common.{◌≢◌, length, lit<, sym, ◌∙◌}
 use Rattle.std.proofs.lemmas.Bool.{false≢true, eqb-true, eqb-false}
 use Rattle.std.proofs.lemmas.Result.{IfOk-weaker}
 use Rattle.std.proofs.lemmas.Str.Pattern.{contains_char}

@@ -1,5 +1,5 @@
 use Rattle.std.proofs.Common.{◌∙◌, sym, ap, length}
-use Rattle.kl_attest.specs.Cursors.{place_of}
+use Rattle.kl_attest.specs.Inner.Seen.{place_of}
 use Rattle.kl_attest.proofs.Steps.{length-listed}
 use Rattle.kl_attest.proofs.selections.Selections.len.Goals as goal
 

@@ -1,6 +1,6 @@
 use Rattle.std.proofs.Common.{◌∙◌, sym}
-use Rattle.kl_attest.specs.Cursors.{place_of}
-use Rattle.kl_attest.specs.Readers.{selection_of}
+use Rattle.kl_attest.specs.Inner.Seen.{place_of}
+use Rattle.kl_attest.specs.Inner.Seen.{selection_of}
 use Rattle.kl_attest.proofs.Steps.{no_fault}
 use Rattle.kl_attest.proofs.Lone.{seeks_from, seeks_past, seeks_found, seeks_two, ends_found, ends_only, ends_none}
 use Rattle.kl_attest.proofs.selections.Selections.lone.Goals as goal

@@ -1,4 +1,4 @@
-use Rattle.kl_attest.specs.Cursors.{place_of}
+use Rattle.kl_attest.specs.Inner.Seen.{place_of}
 use Rattle.kl_attest.proofs.Lone.{Seeks}
 use Rattle.kl_attest.proofs.selections.Selections.lone.Given as goal
 

@@ -1,5 +1,7 @@
+use Rattle.std.proofs.Common.{subst, sym}
 use Rattle.std.proofs.lemmas.Str.{IsUtf8-from_ascii}
+use Rattle.std.specs.Str.{IsAscii}
 use Rattle.kl_states.proofs.name.Name.as_str.Goals as goal
 
 pub from_utf8_unchecked-requires : goal.from_utf8_unchecked-requires
-from_utf8_unchecked-requires c = IsUtf8-from_ascii _ c.self.invariant.ascii
+from_utf8_unchecked-requires c = IsUtf8-from_ascii _ (subst IsAscii (sym c.as_slice-bytes.ensures.value) c.self.invariant)

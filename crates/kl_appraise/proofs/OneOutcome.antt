@@ -1,5 +1,5 @@
 -- A case has one outcome at most: of each rule what it names is one, and the first rule that applies is one.
-use Rattle.std.proofs.Common.{◌≡◌, ◌≢◌, ℕ, Bool, true, false, ◌+◌, ◌<◌, ◌≤◌, List, ◌++◌, length, take, get_or, Option, Some, None, IsSomeAnd, refl, sym, ap, ◌∙◌, subst, inl, inr, arith}
+use Rattle.std.proofs.Common.{◌≡◌, ℕ, Bool, true, false, ◌+◌, ◌<◌, ◌≤◌, List, length, take, get_or, Option, Some, None, IsSomeAnd, refl, sym, ap, ◌∙◌, subst, inl, inr, arith}
 use Rattle.std.proofs.lemmas.Bool.{cases_lt, false≢true}
 use Rattle.std.proofs.lemmas.List.{get_or-take, length-take}
 use Rattle.std.proofs.lemmas.Option.{slice_get_within, get_or_from_slice_get}
@@ -9,14 +9,14 @@ use Rattle.kl_attest.specs.FirstFault.{IsFirstFault}
 use Rattle.kl_attest.proofs.FirstFaults.{first_fault-unique}
 use Rattle.kl_entry.specs.declared.fault.LineFault.{LineFault}
 use Rattle.kl_entry.specs.Entries.{EntryFields}
-use Rattle.kl_entry.specs.Lines.{lines_of, Spells, IsLineFault}
+use Rattle.kl_entry.specs.Lines.{Spells, IsLineFault}
 use Rattle.kl_entry.proofs.FirstFailing.{one_item, one_place}
 use Rattle.kl_entry.proofs.Spelling.{fault_spells_none, one_fault}
 use Rattle.kl_keys.specs.Relations.{Relations}
 use Rattle.kl_pcr.specs.Statics.{IsWrong, IsFirstWrong}
 use Rattle.kl_pcr.specs.declared.statics.Static.{Static}
 use Rattle.kl_policy.specs.PolicyFields.{PolicyFields}
-use Rattle.kl_policy.specs.Policy.{why_of, IsAllowed, IsFirstBad}
+use Rattle.kl_policy.specs.Policy.{why_of, Allows, IsFirstBad}
 use Rattle.kl_policy.specs.declared.why.Why.{Why}
 use Rattle.kl_policy.proofs.Allowed.{allowed_iff}
 use Rattle.kl_quote.proofs.OneForm.{one_form_fault, faultless_quote}
@@ -28,10 +28,10 @@ use Rattle.kl_states.specs.declared.verdict.InvalidCause.{InvalidCause}
 use Rattle.kl_states.specs.declared.verdict.InvalidCause.TheVariants.{Form, Attest}
 use Rattle.kl_appraise.specs.Evidence.{Check, HasValues, with_answer}
 use Rattle.kl_appraise.specs.QuoteRules.{◌otherwise◌, attest_cause, ByForm, ByBank, ByAttest, BySignature, ByNonce, BySelection, ByPcrLength, ByPcrDigest, ByBinding, SignedRules, QuoteRules, FindsCause, IsUnasked, IsAnswered}
-use Rattle.kl_appraise.specs.ListRules.{Case, Outcome, Judged, check_of, line_cause, entry_cause, WholeList, IsCut, IsFirstBadLine, ByQuote, ByStart, ByBoot, ByPcr, ByLine, ByListFull, ByUnmatched, ByEntry, Passes, ListRules}
+use Rattle.kl_appraise.specs.ListRules.{Case, Outcome, Judged, check_of, line_cause, entry_cause, IsCut, IsFirstBadLine, ByQuote, ByStart, ByBoot, ByPcr, ByLine, ByListFull, ByUnmatched, ByEntry, ByPass, ListRules}
 use Rattle.kl_appraise.specs.Outcome.{IsOutcome, IsVerdict}
 use Rattle.kl_appraise.proofs.QuoteFacts.{values_unique}
-use Rattle.kl_appraise.proofs.ListFacts.{entries_same}
+use Rattle.kl_appraise.proofs.ListFacts.{one_whole}
 
 -- one thing at most is so
 abbrev pub IsOne : {A : Type 0} → (A → Type 0) → Type 0
@@ -152,10 +152,6 @@ one_full c x y (_, is) (_, also) = is ∙ sym also
 
 -- ---- 15 to 17, where no rule before applies to the quote, so that it has values
 
-one_whole : (c : Case) (v w : List EntryFields) → WholeList c v → WholeList c w → v ≡ w
-one_whole c v w (es, are, is) (fs, also, same) =
-    is ∙ ap (λ (entries : List EntryFields). take c.evidence.start c.prefix ++ entries) (entries_same (lines_of c.evidence.list) es fs are also) ∙ sym same
-
 -- the quote has values, which can't be denied
 HasSome : Case → Type 0
 HasSome c = ¬ ((v : List ℕ) → ¬ (HasValues c.evidence.quote v))
@@ -194,7 +190,7 @@ not_among policy xs p q why because (here, _) (_, good) below = by_entry (slice_
         let within : p < length xs = slice_get_within xs p e is in
         let inside : p < length (take q xs) = omega (arith, length-take q xs, within, below) in
         let there : get_or (take q xs) p e ≡ e = get_or-take q xs p e below ∙ get_or_from_slice_get xs p e e is in
-        let allowed : IsAllowed policy e = subst (IsAllowed policy) there (good p e inside) in
+        let allowed : Allows policy e = subst (Allows policy) there (good p e inside) in
         let none : why_of policy e ≡ None = (allowed_iff policy e).1 allowed in
         cc
 
@@ -226,19 +222,19 @@ one_by_entry c some x y (v, m, p, why, whole, cut, bad, is) (w, n, q, because, a
     is ∙ ap (λ (k : ℕ). Judged (Failed (Entry k (entry_cause why)))) one.0
     ∙ ap (λ (z : Why). Judged (Failed (Entry q (entry_cause z)))) one.1 ∙ sym same
 
-one_pass : (c : Case) → HasSome c → IsOne (Passes c)
+one_pass : (c : Case) → HasSome c → IsOne (ByPass c)
 one_pass c some x y (v, m, whole, cut, is) (w, n, also, at, same) =
     is ∙ ap (λ (k : ℕ). Judged (Pass k)) (cut_in c v w m n some (one_whole c v w whole also) cut at) ∙ sym same
 
 one_list : (c : Case) → HasSome c → IsOne (ListRules c)
 one_list c some =
-    one_otherwise (ByStart c) (ByBoot c otherwise ByPcr c otherwise ByLine c otherwise ByListFull c otherwise ByUnmatched c otherwise ByEntry c otherwise Passes c) (one_start c)
-    (one_otherwise (ByBoot c) (ByPcr c otherwise ByLine c otherwise ByListFull c otherwise ByUnmatched c otherwise ByEntry c otherwise Passes c) (one_boot c)
-    (one_otherwise (ByPcr c) (ByLine c otherwise ByListFull c otherwise ByUnmatched c otherwise ByEntry c otherwise Passes c) (one_pcr c)
-    (one_otherwise (ByLine c) (ByListFull c otherwise ByUnmatched c otherwise ByEntry c otherwise Passes c) (one_line c)
-    (one_otherwise (ByListFull c) (ByUnmatched c otherwise ByEntry c otherwise Passes c) (one_full c)
-    (one_otherwise (ByUnmatched c) (ByEntry c otherwise Passes c) (one_unmatched c)
-    (one_otherwise (ByEntry c) (Passes c) (one_by_entry c some) (one_pass c some)))))))
+    one_otherwise (ByStart c) (ByBoot c otherwise ByPcr c otherwise ByLine c otherwise ByListFull c otherwise ByUnmatched c otherwise ByEntry c otherwise ByPass c) (one_start c)
+    (one_otherwise (ByBoot c) (ByPcr c otherwise ByLine c otherwise ByListFull c otherwise ByUnmatched c otherwise ByEntry c otherwise ByPass c) (one_boot c)
+    (one_otherwise (ByPcr c) (ByLine c otherwise ByListFull c otherwise ByUnmatched c otherwise ByEntry c otherwise ByPass c) (one_pcr c)
+    (one_otherwise (ByLine c) (ByListFull c otherwise ByUnmatched c otherwise ByEntry c otherwise ByPass c) (one_line c)
+    (one_otherwise (ByListFull c) (ByUnmatched c otherwise ByEntry c otherwise ByPass c) (one_full c)
+    (one_otherwise (ByUnmatched c) (ByEntry c otherwise ByPass c) (one_unmatched c)
+    (one_otherwise (ByEntry c) (ByPass c) (one_by_entry c some) (one_pass c some)))))))
 
 -- ---- all of them
 

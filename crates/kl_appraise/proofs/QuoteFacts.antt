@@ -1,33 +1,31 @@
 -- What excludes each rule on the quote, and which rule is the first that applies.
-use Rattle.std.proofs.Common.{◌≡◌, ◌≢◌, ℕ, ◌*◌, Bool, true, false, List, length, count_ones, Option, Ok, Err, refl, sym, ◌∙◌, subst, inl, inr}
+use Rattle.std.proofs.Common.{◌≡◌, ◌≢◌, ℕ, ◌*◌, Bool, true, false, List, length, count_ones, Option, Some, Ok, Err, refl, sym, ◌∙◌, subst, inl, inr}
 use Rattle.std.proofs.lemmas.Bool.{false≢true}
 use Rattle.sha2.specs.Sha256.{sha256}
+use Rattle.kl_bank.specs.declared.bank.Bank.{Bank as PcrBank}
 use Rattle.kl_bank.specs.Banks.{alg_of, name_of, size_of}
-use Rattle.kl_attest.specs.declared.fault.AttestFault.{AttestFault}
 use Rattle.kl_attest.specs.Grammar.{Quoted, Selection, Spells}
-use Rattle.kl_attest.specs.Faults.{all_of}
-use Rattle.kl_attest.specs.FirstFault.{IsFirstFault}
-use Rattle.kl_attest.proofs.FirstFaults.{all_of-first_fault}
+use Rattle.kl_attest.proofs.FirstFaults.{spells-unique, first_fault-unspelled}
 use Rattle.kl_attest.specs.Pcrs.{OneSet}
-use Rattle.kl_attest.proofs.Quotes.{all_again}
 use Rattle.kl_pcr.specs.Values.{value_at, binding_of}
+use Rattle.kl_quote.specs.declared.evidence.Evidence.{Evidence}
 use Rattle.kl_quote.specs.QuoteText.{IsQuoteText, IsFormFault}
 use Rattle.kl_quote.proofs.Splitting.{quote_unique, quote_faultless}
 use Rattle.kl_states.specs.declared.verdict.InvalidCause.{InvalidCause}
-use Rattle.kl_states.specs.declared.verdict.InvalidCause.TheVariants.{Form, Bank, Attest, Signature, Nonce, Selection as OtherSelection, PcrLength, PcrDigest, Binding}
+use Rattle.kl_states.specs.declared.verdict.InvalidCause.TheVariants.{Form, Signature, Selection as OtherSelection, PcrLength, PcrDigest, Binding}
 use Rattle.kl_keys.specs.Relations.{Relations, Answers}
+use Rattle.kl_keys.specs.Told.{KeysTold}
+use Rattle.kl_appraise.specs.Asking.{Asked}
 use Rattle.kl_appraise.specs.Evidence.{Check, Attests, HasValues}
-use Rattle.kl_appraise.specs.QuoteRules.{attest_cause, ByForm, ByBank, ByAttest, BySignature, ByNonce, BySelection, ByPcrLength, ByPcrDigest, ByBinding, SignedRules, QuoteRules, IsSoundQuote, IsUnasked, IsAnswered}
-use Rattle.kl_appraise.specs.Checked.{MeetsRules}
+use Rattle.kl_appraise.specs.QuoteRules.{ByForm, ByBank, ByAttest, BySignature, ByNonce, BySelection, ByPcrLength, ByPcrDigest, ByBinding, SignedRules, UnreadRules, QuoteRules, MeetsRules, IsSoundQuote, IsUnasked, IsAnswered, ◌otherwise◌}
+use Rattle.kl_appraise.specs.Inner.Checked.{IsReadable}
 
 -- ---- A quote text holds one attestation and one list of values.
 
 pub attests_unique : (quote : List ℕ) (t u : Quoted) → Attests quote t → Attests quote u → t ≡ u
 attests_unique quote t u (a, s, v, q, spells) (b, s2, v2, p, also) =
     let same : a ≡ b = (quote_unique quote a s v b s2 v2 q p).0 in
-    let first : all_of b ≡ Ok t = subst (λ (x : List ℕ). all_of x ≡ Ok t) same (all_again a t spells) in
-    let second : all_of b ≡ Ok u = all_again b u also in
-    cc
+    spells-unique b t u (subst (λ (x : List ℕ). Spells x t) same spells) also
 
 pub values_unique : (quote v w : List ℕ) → HasValues quote v → HasValues quote w → v ≡ w
 values_unique quote v w (a, s, q) (b, t, p) = (quote_unique quote a s v b t w q p).2
@@ -48,9 +46,7 @@ not_bank k e why (other, _) = other e
 pub not_attest : (k : Check) (t : Quoted) → Attests k.evidence.quote t → (why : InvalidCause) → ¬ (ByAttest k why)
 not_attest k t (a, s, v, q, spells) why (b, s2, v2, f, p, fault, _) =
     let same : a ≡ b = (quote_unique k.evidence.quote a s v b s2 v2 q p).0 in
-    let first : all_of b ≡ Ok t = subst (λ (x : List ℕ). all_of x ≡ Ok t) same (all_again a t spells) in
-    let second : all_of b ≡ Err f = all_of-first_fault b f p.attest_bytes fault in
-    cc
+    first_fault-unspelled b f t p.attest_bytes fault (subst (λ (x : List ℕ). Spells x t) same spells)
 
 pub not_signature : (k : Check) → k.signed ≡ true → (why : InvalidCause) → ¬ (BySignature k why)
 not_signature k signed why (unsigned, _) = false≢true (sym unsigned ∙ signed)
@@ -76,10 +72,7 @@ pub not_binding : (k : Check) (v : List ℕ) → HasValues k.evidence.quote v �
 not_binding k v h e why (w, i, other, _) =
     other (subst (λ (x : List ℕ). value_at k.bank k.mask x 16 ≡ binding_of k.bank k.evidence.public) (values_unique k.evidence.quote v w h i) e)
 
--- ---- Which of rules 5 to 9 is the first
-
-pub by_nonce : (k : Check) (t : Quoted) → Attests k.evidence.quote t → t.extra ≢ k.nonce → SignedRules k Nonce
-by_nonce k t a other = inl (t, a, other, refl)
+-- ---- Which of rules 5 to 9 is the first, where the tests before it are met
 
 pub by_selection : (k : Check) (t : Quoted) → Attests k.evidence.quote t → t.extra ≡ k.nonce → ¬ (OneSet t.selections (alg_of k.bank) k.mask) → SignedRules k OtherSelection
 by_selection k t a nonce other = inr (not_nonce k t a nonce, inl (t, a, other, refl))
@@ -98,70 +91,71 @@ pub by_binding : (k : Check) (t : Quoted) (v : List ℕ) → Attests k.evidence.
 by_binding k t v a h nonce set sized digest other =
     inr (not_nonce k t a nonce, inr (not_selection k t a set, inr (not_length k v h sized, inr (not_digest k t v a h digest, (v, h, other, refl)))))
 
--- ---- Which of all nine is the first
+-- ---- What a quote that can be read shows
 
-pub by_form : (k : Check) (part : ℕ) → IsFormFault k.evidence.quote part → QuoteRules k (Form part)
-by_form k part fault = inl (part, fault, refl)
+pub read_attests : (bank : PcrBank) (e : Evidence) (a s v : List ℕ) (t : Quoted) → IsReadable bank e a s v t → Attests e.quote t
+read_attests bank e a s v t r = (a, s, v, r.text, r.spells)
 
-pub by_bank : (k : Check) (a s v : List ℕ) → IsQuoteText k.evidence.quote a s v → k.evidence.bank ≢ name_of k.bank → QuoteRules k Bank
-by_bank k a s v q other = inr (not_form k a s v q, inl (other, refl))
+pub read_values : (bank : PcrBank) (e : Evidence) (a s v : List ℕ) (t : Quoted) → IsReadable bank e a s v t → HasValues e.quote v
+read_values bank e a s v t r = (a, s, r.text)
 
-pub by_attest : (k : Check) (a s v : List ℕ) (f : AttestFault) → IsQuoteText k.evidence.quote a s v → k.evidence.bank ≡ name_of k.bank → IsFirstFault a f → QuoteRules k (Attest (attest_cause f))
-by_attest k a s v f q bank fault = inr (not_form k a s v q, inr (not_bank k bank, inl (a, s, v, f, q, fault, refl)))
+-- ---- Which of rules 1 to 3 is the first
 
-pub by_signature : (k : Check) (a s v : List ℕ) (t : Quoted) → IsQuoteText k.evidence.quote a s v → Spells a t → k.evidence.bank ≡ name_of k.bank → k.signed ≡ false → QuoteRules k Signature
-by_signature k a s v t q spells bank unsigned =
-    inr (not_form k a s v q, inr (not_bank k bank, inr (not_attest k t (a, s, v, q, spells), inl (unsigned, refl))))
+pub unread_form : (k : Check) (part : ℕ) → IsFormFault k.evidence.quote part → UnreadRules k (Form part)
+unread_form k part fault = inl (part, fault, refl)
 
-pub by_signed : (k : Check) (a s v : List ℕ) (t : Quoted) (why : InvalidCause) → IsQuoteText k.evidence.quote a s v → Spells a t → k.evidence.bank ≡ name_of k.bank → k.signed ≡ true
-    → SignedRules k why → QuoteRules k why
-by_signed k a s v t why q spells bank signed unmet =
-    inr (not_form k a s v q, inr (not_bank k bank, inr (not_attest k t (a, s, v, q, spells), inr (not_signature k signed, unmet))))
+pub unread_later : (k : Check) (a s v : List ℕ) (why : InvalidCause) → IsQuoteText k.evidence.quote a s v → (ByBank k otherwise ByAttest k) why → UnreadRules k why
+unread_later k a s v why q rule = inr (not_form k a s v q, rule)
+
+-- ---- Which of all nine is
+
+pub by_unread : (k : Check) (why : InvalidCause) → UnreadRules k why → QuoteRules k why
+by_unread k why (inl x) = inl x
+by_unread k why (inr (form, inl x)) = inr (form, inl x)
+by_unread k why (inr (form, inr (bank, x))) = inr (form, inr (bank, inl x))
+
+by_signing : (k : Check) (a s v : List ℕ) (t : Quoted) (why : InvalidCause) → IsReadable k.bank k.evidence a s v t → (BySignature k otherwise SignedRules k) why → QuoteRules k why
+by_signing k a s v t why r rule =
+    inr (not_form k a s v r.text, inr (not_bank k r.named, inr (not_attest k t (read_attests k.bank k.evidence a s v t r), rule)))
+
+pub by_signature : (k : Check) (a s v : List ℕ) (t : Quoted) → IsReadable k.bank k.evidence a s v t → k.signed ≡ false → QuoteRules k Signature
+by_signature k a s v t r unsigned = by_signing k a s v t Signature r (inl (unsigned, refl))
+
+pub by_signed : (k : Check) (a s v : List ℕ) (t : Quoted) (why : InvalidCause) → IsReadable k.bank k.evidence a s v t → k.signed ≡ true → SignedRules k why → QuoteRules k why
+by_signed k a s v t why r signed unmet = by_signing k a s v t why r (inr (not_signature k signed, unmet))
 
 -- ---- No rule applies
 
-not_signed_rules : (k : Check) (t : Quoted) (v : List ℕ) → Attests k.evidence.quote t → HasValues k.evidence.quote v → MeetsRules k t v → (why : InvalidCause) → ¬ (SignedRules k why)
-not_signed_rules k t v a h m why (inl x) = not_nonce k t a m.nonce why x
-not_signed_rules k t v a h m why (inr (_, inl x)) = not_selection k t a m.selection why x
-not_signed_rules k t v a h m why (inr (_, inr (_, inl x))) = not_length k v h m.sized why x
-not_signed_rules k t v a h m why (inr (_, inr (_, inr (_, inl x)))) = not_digest k t v a h m.digest why x
-not_signed_rules k t v a h m why (inr (_, inr (_, inr (_, inr (_, x))))) = not_binding k v h m.binding why x
+not_signed_rules : (k : Check) (t : Quoted) (v : List ℕ) → MeetsRules k t v → (why : InvalidCause) → ¬ (SignedRules k why)
+not_signed_rules k t v m why (inl x) = not_nonce k t m.attests m.nonce why x
+not_signed_rules k t v m why (inr (_, inl x)) = not_selection k t m.attests m.selection why x
+not_signed_rules k t v m why (inr (_, inr (_, inl x))) = not_length k v m.has_values m.sized why x
+not_signed_rules k t v m why (inr (_, inr (_, inr (_, inl x)))) = not_digest k t v m.attests m.has_values m.digest why x
+not_signed_rules k t v m why (inr (_, inr (_, inr (_, inr (_, x))))) = not_binding k v m.has_values m.binding why x
 
-pub sound_by : (k : Check) (t : Quoted) (v : List ℕ) → Attests k.evidence.quote t → HasValues k.evidence.quote v → k.evidence.bank ≡ name_of k.bank → k.signed ≡ true → MeetsRules k t v → IsSoundQuote k
-sound_by k t v (a, s, w, q, spells) h bank signed m why (inl x) = not_form k a s w q why x
-sound_by k t v a h bank signed m why (inr (_, inl x)) = not_bank k bank why x
-sound_by k t v a h bank signed m why (inr (_, inr (_, inl x))) = not_attest k t a why x
-sound_by k t v a h bank signed m why (inr (_, inr (_, inr (_, inl x)))) = not_signature k signed why x
-sound_by k t v a h bank signed m why (inr (_, inr (_, inr (_, inr (_, x))))) = not_signed_rules k t v a h m why x
+pub sound_by : (k : Check) (t : Quoted) (v : List ℕ) → MeetsRules k t v → IsSoundQuote k
+sound_by k t v m why (inl x) = let (a, s, w, q, _) = m.attests in not_form k a s w q why x
+sound_by k t v m why (inr (_, inl x)) = not_bank k m.bank why x
+sound_by k t v m why (inr (_, inr (_, inl x))) = not_attest k t m.attests why x
+sound_by k t v m why (inr (_, inr (_, inr (_, inl x)))) = not_signature k m.signed why x
+sound_by k t v m why (inr (_, inr (_, inr (_, inr (_, x))))) = not_signed_rules k t v m why x
 
 -- ---- The key object is asked, or not
 
-pub unasked_form : (k : Check) (part : ℕ) → IsFormFault k.evidence.quote part → IsUnasked k
-unasked_form k part fault = (Form part, inl (part, fault, refl))
-
-pub unasked_bank : (k : Check) (a s v : List ℕ) → IsQuoteText k.evidence.quote a s v → k.evidence.bank ≢ name_of k.bank → IsUnasked k
-unasked_bank k a s v q other = (Bank, inr (not_form k a s v q, inl (other, refl)))
-
-pub unasked_attest : (k : Check) (a s v : List ℕ) (f : AttestFault) → IsQuoteText k.evidence.quote a s v → k.evidence.bank ≡ name_of k.bank → IsFirstFault a f → IsUnasked k
-unasked_attest k a s v f q bank fault = (Attest (attest_cause f), inr (not_form k a s v q, inr (not_bank k bank, (a, s, v, f, q, fault, refl))))
-
-pub is_asked : (k : Check) (a s v : List ℕ) (t : Quoted) → IsQuoteText k.evidence.quote a s v → Spells a t → k.evidence.bank ≡ name_of k.bank → ¬ (IsUnasked k)
-is_asked k a s v t q spells bank (why, inl x) = not_form k a s v q why x
-is_asked k a s v t q spells bank (why, inr (_, inl x)) = not_bank k bank why x
-is_asked k a s v t q spells bank (why, inr (_, inr (_, x))) = not_attest k t (a, s, v, q, spells) why x
+pub is_asked : (k : Check) (a s v : List ℕ) (t : Quoted) → IsReadable k.bank k.evidence a s v t → ¬ (IsUnasked k)
+is_asked k a s v t r (why, inl x) = not_form k a s v r.text why x
+is_asked k a s v t r (why, inr (_, inl x)) = not_bank k r.named why x
+is_asked k a s v t r (why, inr (_, inr (_, x))) = not_attest k t (read_attests k.bank k.evidence a s v t r) why x
 
 pub answered_no : (told : Option Relations) (ak : List ℕ) (k : Check) → IsUnasked k → k.signed ≡ false → IsAnswered told ak k
 answered_no told ak k none unsigned = record { unasked = λ _. unsigned; asked = λ some. absurd (some none) }
 
-pub answers_at : (told : Option Relations) (ak a b s t : List ℕ) (x y : Bool) → a ≡ b → s ≡ t → x ≡ y → Answers told ak a s x → Answers told ak b t y
-answers_at told ak a b s t x y ab st xy h =
-    subst (λ (z : Bool). Answers told ak b t z) xy (subst (λ (z : List ℕ). Answers told ak b z x) st (subst (λ (z : List ℕ). Answers told ak z s x) ab h))
-
-pub answered_as : (told : Option Relations) (ak : List ℕ) (k : Check) (a s v : List ℕ) (t : Quoted) → IsQuoteText k.evidence.quote a s v → Spells a t → k.evidence.bank ≡ name_of k.bank
-    → Answers told ak a s k.signed → IsAnswered told ak k
-answered_as told ak k a s v t q spells bank answer = record {
-  unasked = λ none. absurd (is_asked k a s v t q spells bank none);
-  asked = λ _ b r w p.
-      let same = quote_unique k.evidence.quote a s v b r w q p in
-      answers_at told ak a b s r k.signed k.signed same.0 same.1 refl answer;
+pub answered_as : (old new : KeysTold) (ak : List ℕ) (k : Check) (given : Bool) (a s v : List ℕ) (t : Quoted) → IsReadable k.bank k.evidence a s v t → given ≡ k.signed
+    → Asked old new ak k.evidence.quote (Some given) → IsAnswered old.relations ak k
+answered_as old new ak k given a s v t r signed asked = record {
+  unasked = λ none. absurd (is_asked k a s v t r none);
+  asked = λ _ b z w p.
+      let same = quote_unique k.evidence.quote asked.attest asked.signature asked.values b z w asked.text p in
+      subst (λ (x : Bool). Answers old.relations ak b z x) signed
+      (subst (λ (x : List ℕ). Answers old.relations ak b x given) same.1 (subst (λ (x : List ℕ). Answers old.relations ak x asked.signature given) same.0 asked.related));
 }

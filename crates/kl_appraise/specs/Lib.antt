@@ -1,9 +1,11 @@
 pub mod Terms
-pub mod Kept
 pub mod Evidence
 pub mod QuoteRules
 pub mod ListRules
 pub mod Outcome
+pub mod Kept
+pub mod Shown
+pub mod Asking
 pub mod Genuine
-pub mod Checked
-pub mod Listed
+pub mod Identity
+pub mod Inner

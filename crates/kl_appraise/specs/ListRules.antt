@@ -12,7 +12,6 @@ use Rattle.kl_policy.specs.Policy.{IsFirstBad}
 use Rattle.kl_policy.specs.declared.why.Why.{Why}
 use Rattle.kl_policy.specs.declared.why.Why.TheVariants as reason
 use Rattle.kl_quote.specs.declared.evidence.Evidence.{Evidence}
-use Rattle.kl_states.specs.declared.verdict.Verdict.{Verdict}
 use Rattle.kl_states.specs.declared.verdict.Verdict.TheVariants.{Pass, Failed, Invalid}
 use Rattle.kl_states.specs.declared.verdict.FailedCause.TheVariants.{Pcr, Line, ListFull, Unmatched, Entry}
 use Rattle.kl_states.specs.declared.verdict.InvalidCause.{InvalidCause}
@@ -22,8 +21,11 @@ use Rattle.kl_states.specs.declared.verdict.LineCause.TheVariants as line
 use Rattle.kl_states.specs.declared.verdict.EntryCause.{EntryCause}
 use Rattle.kl_states.specs.declared.verdict.EntryCause.TheVariants as entry
 use Rattle.kl_appraise.specs.declared.judged.Boot.{Boot}
+-- an outcome is a verdict, which these definitions call `Judged`, or the finding that the machine booted anew
+pub use Rattle.kl_appraise.specs.declared.judged.Outcome.{Outcome}
+pub use Rattle.kl_appraise.specs.declared.judged.Outcome.TheVariants.{Verdict as Judged, Restart}
 use Rattle.kl_appraise.specs.Terms.{TermsFields}
-use Rattle.kl_appraise.specs.Evidence.{Check, Attests, HasValues}
+use Rattle.kl_appraise.specs.Evidence.{Check, check_under, Attests, HasValues}
 use Rattle.kl_appraise.specs.QuoteRules.{◌otherwise◌, QuoteRules}
 
 -- What is appraised: the terms, the poll's nonce, where the poll asked the agent to begin, the entries that were
@@ -38,12 +40,7 @@ pub record Case : Type 0 where
   pub signed : Bool
 
 abbrev pub check_of : Case → Check
-check_of c = record { bank = c.terms.bank; mask = c.terms.mask; nonce = c.nonce; evidence = c.evidence; signed = c.signed }
-
--- a verdict, or the finding that the machine booted anew
-pub data Outcome : Type 0 where
-  Judged : Verdict → Outcome
-  Restart : Outcome
+check_of c = check_under c.terms c.nonce c.evidence c.signed
 
 -- the most entries that a list may have
 abbrev pub list_limit : ℕ
@@ -67,8 +64,11 @@ entry_cause reason.Unknown = entry.Unknown
 entry_cause reason.Digest = entry.Digest
 
 -- the whole list since boot: the accepted entries that the reply begins behind, and then those of the reply
+abbrev pub Continues : List EntryFields → Evidence → List EntryFields → Type 0
+Continues prefix e whole = (entries : List EntryFields) × AreEntries e.list entries × (whole ≡ take e.start prefix ++ entries)
+
 abbrev pub WholeList : Case → List EntryFields → Type 0
-WholeList c whole = (entries : List EntryFields) × AreEntries c.evidence.list entries × (whole ≡ take c.evidence.start c.prefix ++ entries)
+WholeList c whole = Continues c.prefix c.evidence whole
 
 -- a place where the list may be cut: at or behind the reply's start, and behind at least one entry
 pub record IsPlace (c : Case) (whole : List EntryFields) (cut : ℕ) : Type 0 where
@@ -133,12 +133,9 @@ ByEntry c o =
     × IsFirstBad c.terms.policy (take cut whole) (Some (place, why)) × (o ≡ Judged (Failed (Entry place (entry_cause why))))
 
 -- 17. Otherwise the list up to the cut passes.
-abbrev pub Passes : Case → Outcome → Type 0
-Passes c o = (whole : List EntryFields) × (cut : ℕ) × WholeList c whole × IsCut c whole cut × (o ≡ Judged (Pass cut))
+abbrev pub ByPass : Case → Outcome → Type 0
+ByPass c o = (whole : List EntryFields) × (cut : ℕ) × WholeList c whole × IsCut c whole cut × (o ≡ Judged (Pass cut))
 
 -- the first of rules 10 to 17 that applies, which look beyond the quote
 abbrev pub ListRules : Case → Outcome → Type 0
-ListRules c = ByStart c otherwise ByBoot c otherwise ByPcr c otherwise ByLine c otherwise ByListFull c otherwise ByUnmatched c otherwise ByEntry c otherwise Passes c
-
-abbrev pub ListVerdict : Case → Verdict → Type 0
-ListVerdict c v = ListRules c (Judged v)
+ListRules c = ByStart c otherwise ByBoot c otherwise ByPcr c otherwise ByLine c otherwise ByListFull c otherwise ByUnmatched c otherwise ByEntry c otherwise ByPass c

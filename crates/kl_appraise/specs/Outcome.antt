@@ -1,6 +1,8 @@
 -- The outcome of an appraisal: that of the first rule that applies.
-use Rattle.std.specs.Prelude.{◌≡◌, ℕ, Bool, Option, None, Some, List, [], ⊤}
+use Rattle.std.specs.Prelude.{◌≡◌, ℕ, ◌+◌, Bool, Option, None, Some, List, [], length, ⊤}
 use Rattle.kl_attest.specs.Grammar.{Quoted}
+use Rattle.kl_entry.specs.Entries.{EntryFields}
+use Rattle.kl_entry.specs.Lines.{lines_of}
 use Rattle.kl_quote.specs.declared.evidence.Evidence.{Evidence}
 use Rattle.kl_states.specs.declared.verdict.Verdict.{Verdict}
 use Rattle.kl_states.specs.declared.verdict.Verdict.TheVariants.{Pass, Failed, Invalid}
@@ -9,7 +11,7 @@ use Rattle.kl_appraise.specs.declared.judged.Boot.{Boot}
 use Rattle.kl_appraise.specs.Terms.{TermsFields}
 use Rattle.kl_appraise.specs.Evidence.{Attests}
 use Rattle.kl_appraise.specs.QuoteRules.{◌otherwise◌}
-use Rattle.kl_appraise.specs.ListRules.{Case, Outcome, Judged, boot_of, ByQuote, ListRules}
+use Rattle.kl_appraise.specs.ListRules.{Case, Outcome, Judged, Restart, boot_of, WholeList, IsCut, ByQuote, ListRules}
 
 -- rules 1 to 17
 abbrev pub IsOutcome : Case → Outcome → Type 0
@@ -29,12 +31,6 @@ HasBoot quote (Pass _) boot = (t : Quoted) × Attests quote t × (boot ≡ Some 
 HasBoot quote (Failed _) boot = boot ≡ None
 HasBoot quote (Invalid _) boot = boot ≡ None
 
--- the boot, at a Pass alone
-abbrev pub boot_with : Verdict → Boot → Option Boot
-boot_with (Pass _) boot = Some boot
-boot_with (Failed _) boot = None
-boot_with (Invalid _) boot = None
-
 -- the verdict is one that the list's replay decides: it is given by one of rules 15 to 17
 abbrev pub IsReplayed : Verdict → Type 0
 IsReplayed (Pass _) = ⊤
@@ -44,3 +40,15 @@ IsReplayed (Failed (Pcr _)) = ⊥
 IsReplayed (Failed (Line _ _)) = ⊥
 IsReplayed (Failed ListFull) = ⊥
 IsReplayed (Invalid _) = ⊥
+
+-- How many entries are measured for an outcome: those of the reply up to the cut, all of them where there is no cut, and none
+-- where a rule before those on the replay decides.
+abbrev pub Measures : Case → Outcome → ℕ → Type 0
+Measures c (Judged (Pass cut)) n = c.evidence.start + n ≡ cut
+Measures c (Judged (Failed (Entry _ _))) n = (whole : List EntryFields) × (cut : ℕ) × WholeList c whole × IsCut c whole cut × (c.evidence.start + n ≡ cut)
+Measures c (Judged (Failed Unmatched)) n = n ≡ length (lines_of c.evidence.list)
+Measures c (Judged (Failed (Pcr _))) n = n ≡ 0
+Measures c (Judged (Failed (Line _ _))) n = n ≡ 0
+Measures c (Judged (Failed ListFull)) n = n ≡ 0
+Measures c (Judged (Invalid _)) n = n ≡ 0
+Measures c Restart n = n ≡ 0

@@ -1,5 +1,5 @@
 -- The rules that look at the quote alone, in their order. Each names the cause that it gives where it applies.
-use Rattle.std.specs.Prelude.{◌≡◌, ◌≢◌, ◌⊎◌, ℕ, ◌*◌, false, List, length, count_ones, Option, None, Some}
+use Rattle.std.specs.Prelude.{◌≡◌, ◌≢◌, ◌⊎◌, ℕ, ◌*◌, true, false, List, length, count_ones, Option, None, Some}
 use Rattle.sha2.specs.Sha256.{sha256}
 use Rattle.kl_bank.specs.Banks.{alg_of, name_of, size_of}
 use Rattle.kl_attest.specs.declared.fault.AttestFault.{AttestFault}
@@ -59,12 +59,14 @@ BySelection k why = (t : Quoted) × Attests k.evidence.quote t × (¬ (OneSet t.
 abbrev pub ByPcrLength : Check → InvalidCause → Type 0
 ByPcrLength k why = (values : List ℕ) × HasValues k.evidence.quote values × (length values ≢ size_of k.bank * count_ones k.mask) × (why ≡ PcrLength)
 
--- 8. The attestation is not over these values: it signs the SHA-256 of others.
+-- 8. The attestation is not over these values: it signs the SHA-256 of others. That pcrDigest is a SHA-256 in every bank is this
+-- project's own rule; a TPM takes the hash of its signing scheme.
 abbrev pub ByPcrDigest : Check → InvalidCause → Type 0
 ByPcrDigest k why =
     (t : Quoted) × (values : List ℕ) × Attests k.evidence.quote t × HasValues k.evidence.quote values × (t.pcr_digest ≢ sha256 values) × (why ≡ PcrDigest)
 
--- 9. PCR 16 is not bound to the public key text.
+-- 9. PCR 16 is not bound to the public key text: it is not what a reset PCR holds into which the hash of that text was extended.
+-- That a key is bound so, and by this PCR, is this project's own rule.
 abbrev pub ByBinding : Check → InvalidCause → Type 0
 ByBinding k why =
     (values : List ℕ) × HasValues k.evidence.quote values × (value_at k.bank k.mask values 16 ≢ binding_of k.bank k.evidence.public) × (why ≡ Binding)
@@ -81,14 +83,36 @@ QuoteRules k = ByForm k otherwise ByBank k otherwise ByAttest k otherwise BySign
 abbrev pub IsSoundQuote : Check → Type 0
 IsSoundQuote k = (why : InvalidCause) → ¬ (QuoteRules k why)
 
+-- What is so where none applies: the quote text is that of an attestation and of PCR values; the evidence names the bank; the
+-- key object said yes; and the attestation answers the nonce and is over these values, which are those of the mask's PCRs and
+-- bind the public key text.
+pub record MeetsRules (k : Check) (t : Quoted) (values : List ℕ) : Type 0 where
+  pub attests : Attests k.evidence.quote t
+  pub has_values : HasValues k.evidence.quote values
+  pub bank : k.evidence.bank ≡ name_of k.bank
+  pub signed : k.signed ≡ true
+  pub nonce : t.extra ≡ k.nonce
+  pub selection : OneSet t.selections (alg_of k.bank) k.mask
+  pub sized : length values ≡ size_of k.bank * count_ones k.mask
+  pub digest : t.pcr_digest ≡ sha256 values
+  pub binding : value_at k.bank k.mask values 16 ≡ binding_of k.bank k.evidence.public
+
+-- it is so of the quote of the evidence
+abbrev pub IsGoodQuote : Check → Type 0
+IsGoodQuote k = (t : Quoted) × (values : List ℕ) × MeetsRules k t values
+
 -- what the nine rules find: the cause of the first that applies, or none where none does
 abbrev pub FindsCause : Check → Option InvalidCause → Type 0
 FindsCause k None = IsSoundQuote k
 FindsCause k (Some why) = QuoteRules k why
 
--- one of rules 1 to 3 decides, so that the key object is not asked
+-- the first of rules 1 to 3 that applies, where there is no signature to ask the key object about
+abbrev pub UnreadRules : Check → InvalidCause → Type 0
+UnreadRules k = ByForm k otherwise ByBank k otherwise ByAttest k
+
+-- one of them decides, so that the key object is not asked
 abbrev pub IsUnasked : Check → Type 0
-IsUnasked k = (why : InvalidCause) × (ByForm k otherwise ByBank k otherwise ByAttest k) why
+IsUnasked k = (why : InvalidCause) × UnreadRules k why
 
 -- Whether the quote is signed: no where the key object is not asked, and else what it answers for the attestation key,
 -- the attestation and the signature of the quote text.

@@ -17,7 +17,8 @@ pub record TermsFields : Type 0 where
   pub v : Option (List ℕ)
   pub policy : PolicyFields
 
--- a mask has PCR 10, where the measurement list is extended, and PCR 16, where the key is bound, and no PCR from 24 on
+-- A mask has PCR 10, where the measurement list is extended, and PCR 16, where the key is bound, and no PCR from 24 on, which a
+-- PC's TPM has. That both must be quoted is this project's own rule.
 pub record IsMask (mask : ℕ) : Type 0 where
   pub below : mask < 2 ^ 24
   pub list : IsSelected mask 10

@@ -1,9 +1,11 @@
 //! The check that a quote is of a key that is bound to a machine.
 
-ghost use Rattle.std.specs.Prelude.{◌≡◌, ◌⊎◌, Bool, IfOk, IsErrOf, false};
-ghost use Rattle.kl_keys.specs.Causes.{HasCause};
-ghost use Rattle.kl_appraise.specs.Checked.{cause_in, identity_check};
-ghost use Rattle.kl_appraise.specs.QuoteRules.{FindsCause, IsAnswered, IsUnasked};
+ghost use Rattle.std.specs.Prelude.{◌≡◌, ◌⊎◌, Bool, IfOk, IfNone, IsErrOf, None, Some, true, false};
+ghost use Rattle.kl_io.specs.Calls.{HasCause};
+ghost use Rattle.kl_appraise.specs.Identity.{identity_check};
+ghost use Rattle.kl_appraise.specs.Asking.{Asked, AskedOnce};
+ghost use Rattle.kl_appraise.specs.QuoteRules.{FindsCause, IsAnswered, IsGoodQuote, IsUnasked};
+ghost use Rattle.kl_appraise.specs.Inner.Checked.{cause_in};
 
 use crate::fault::AppraiseError;
 use crate::quoted::{Checked, Wanted, check_quote};
@@ -30,17 +32,28 @@ pub fn check_identity<Y: Keys>(
     evidence: &Evidence,
     keys: &mut Y,
 ) -> Result<Option<InvalidCause>, AppraiseError>
-    // The cause is that of the first rule that applies, where signed is what the key object answers, if it is asked.
+    // The cause is that of the first rule that applies, where signed is what the key object answers: it was
+    // asked, unless one of rules 1 to 3 decides.
     ensures rules { IfOk result (λ found. (signed : Bool)
-        × IsAnswered (Y.told keys.old) ak.now (identity_check nonce.now evidence.now signed)
+        × IsAnswered (Y.told keys.old).relations ak.now (identity_check nonce.now evidence.now signed)
+        × (IsUnasked (identity_check nonce.now evidence.now false)
+        ⊎ Asked (Y.told keys.old) (Y.told keys.new) ak.now evidence.now.quote (Some signed))
         × FindsCause (identity_check nonce.now evidence.now signed) found) }
-    // The key object is blamed only where it was to be asked.
+    // Where none is found, the quote met all tests.
+    ensures quote { IfOk result (λ found. IfNone found (IsGoodQuote (identity_check nonce.now evidence.now true))) }
+    // It is blamed only where it was asked, since none of those rules decides, and met a fault.
+    ensures fault { IsErrOf result AppraiseError.Keys
+        → Asked (Y.told keys.old) (Y.told keys.new) ak.now evidence.now.quote None }
     ensures asked { IsErrOf result AppraiseError.Keys → ¬ (IsUnasked (identity_check nonce.now evidence.now false)) }
-    // The key object is left as it was, unless it was to be asked.
+    // It is left as it was where one of them decides, and else too, or asked once about this quote.
     ensures unasked { (keys.new ≡ keys.old) ⊎ (¬ (IsUnasked (identity_check nonce.now evidence.now false))) }
-    ensures told { Y.told keys.new ≡ Y.told keys.old }
-    // The count of faults never falls, and it rose where the key object is blamed.
-    ensures cause { HasCause (Y.fault_count keys.old) (Y.fault_count keys.new) (IsErrOf result AppraiseError.Keys) }
+    ensures once { (keys.new ≡ keys.old) ⊎ AskedOnce (Y.told keys.old) (Y.told keys.new) ak.now evidence.now.quote }
+    ensures told { (Y.told keys.new).relations ≡ (Y.told keys.old).relations }
+    // It met no fault, unless it is blamed; its count of faults never falls, and rose where it is blamed.
+    ensures spared { IsErrOf result AppraiseError.Keys
+        ⊎ ((Y.told keys.new).calls.faults ≡ (Y.told keys.old).calls.faults) }
+    ensures cause { HasCause (Y.told keys.old).calls.faults (Y.told keys.new).calls.faults
+        (IsErrOf result AppraiseError.Keys) }
 {
     let wanted = Wanted {
         bank: Bank::Sha256,

@@ -12,6 +12,15 @@ pub struct Boot {
     pub restart: u32,
 }
 
+/// What the first rule that applies finds of evidence.
+#[derive(Clone, Copy, Debug, PartialEq, Eq)]
+pub enum Outcome {
+    /// A verdict.
+    Verdict(Verdict),
+    /// No verdict: the reply continues a list of another boot than that which its quote signs.
+    Restart,
+}
+
 /// What an appraisal of evidence found.
 #[derive(Clone, Copy, Debug, PartialEq, Eq)]
 pub struct Judged {

@@ -1,19 +1,25 @@
 //! The rules beyond the quote: where the list begins, the static PCRs, and the measurement list.
 
-ghost use Rattle.std.specs.Prelude.{◌≡◌, ◌⊎◌, ◌+◌, ◌*◌, ◌≤◌, ℕ, Bool, List, length, count_ones, IfOk, IfErr};
+ghost use Rattle.std.specs.Prelude.{◌≡◌, ◌+◌, ◌*◌, ◌^◌, ◌<◌, ◌≤◌, ℕ, Bool, List, length, count_ones, IfOk, IfErr, IfSome, IsErr};
+ghost use Rattle.kl_attest.specs.Grammar.{Quoted};
 ghost use Rattle.kl_bank.specs.Banks.{size_of};
+ghost use Rattle.kl_entry.specs.Entries.{EntryFields};
 ghost use Rattle.kl_entry.specs.Lines.{lines_of};
 ghost use Rattle.kl_entry.specs.declared.fault.LineFault.{LineFault};
 ghost use Rattle.kl_pcr.specs.Values.{value_at};
-ghost use Rattle.kl_appraise.specs.Evidence.{HasValues};
-ghost use Rattle.kl_appraise.specs.ListRules.{ListVerdict, IsFirstBadLine, line_cause, entry_cause};
-ghost use Rattle.kl_appraise.specs.Listed.{JudgesEntries};
-ghost use Rattle.kl_appraise.specs.Outcome.{whole_case, IsReplayed};
+ghost use Rattle.kl_appraise.specs.Evidence.{Attests, HasValues};
+ghost use Rattle.kl_appraise.specs.ListRules.{IsFirstBadLine, boot_of, line_cause, entry_cause};
+ghost use Rattle.kl_appraise.specs.Kept.{IsKept, InEachCase};
+ghost use Rattle.kl_appraise.specs.Inner.Listed.{IsBase, IsNoBase, IsWithin, JudgesEntries, JudgesList};
 
 use crate::fault::AppraiseError;
+use crate::judged::{Boot, Outcome};
+use crate::kept::Kept;
 use crate::listed::{ListFault, read_entries};
-use crate::replayed::{Cut, find_cut};
+use crate::quoted::SoundQuote;
+use crate::replayed::{Base, Cut, find_cut};
 use crate::terms::Terms;
+use kl_bank::Bank;
 use kl_entry::{Entry, LineFault};
 use kl_pcr::{Steps, first_wrong, value};
 use kl_policy::Why;
@@ -23,71 +29,123 @@ use std::alloc::Global;
 use std::sync::ledger::Ledger;
 
 /// The most entries that a measurement list may have.
-const LIST_LIMIT: usize = 131_072;
+const LIST_LIMIT: u64 = 131_072;
 
 /// The PCR that the measurement list is extended into.
-const LIST_PCR: u8 = 10;
+pub const LIST_PCR: u8 = 10;
 
-/// The verdict on evidence whose quote breaks no rule, and has these values.
+/// The outcome of evidence whose quote breaks no rule.
 pub fn judge_list<L: Ledger>(
     alloc: Global,
     terms: &Terms,
+    kept: Option<Kept>,
     evidence: &Evidence,
-    values: &[u8],
+    quote: &SoundQuote,
     steps: &mut Steps<L>,
-) -> Result<Verdict, AppraiseError>
-    requires sized { length values.now ≡ size_of terms.now.bank * count_ones terms.now.mask }
-    requires values { HasValues evidence.now.quote values.now }
-    ensures rules { IfOk result (λ v. (nonce : List ℕ) (signed : Bool) → ListVerdict (whole_case terms.now nonce evidence.now signed) v) }
+) -> Result<Outcome, AppraiseError>
+    requires kept { IfSome kept (λ k. IsKept terms.now.bank k) }
+    requires sized { length quote.now.values ≡ size_of terms.now.bank * count_ones terms.now.mask }
+    requires values { HasValues evidence.now.quote quote.now.values }
+    requires boot { (t : Quoted) × Attests evidence.now.quote t × (boot_of t ≡ quote.now.boot) }
+    ensures rules { IfOk result (λ o. (n : ℕ) × (steps.new ≡ steps.old + n)
+        × ((nonce : List ℕ) (signed : Bool) (t : Quoted) → Attests evidence.now.quote t
+        → InEachCase terms.now nonce kept evidence.now signed (λ c. JudgesList c t quote.now.values o n))) }
+    ensures within { IfOk result (λ o. IsWithin o) }
     ensures memory { IfErr result (λ e. e ≡ AppraiseError.Memory) }
+    ensures idle { IsErr result → steps.new ≡ steps.old }
     ensures cost { steps.new ≤ steps.old + length (lines_of evidence.now.list) }
     ensures unread { (place : ℕ) (fault : LineFault) → IsFirstBadLine evidence.now.list place fault → steps.new ≡ steps.old }
-    ensures idle { IfOk result (λ v. IsReplayed v ⊎ (steps.new ≡ steps.old)) }
 {
-    if evidence.start != 0 {
-        return Ok(Verdict::Invalid(InvalidCause::Start));
-    }
+    let base = match base_of(terms.bank(), kept, evidence.start, quote.boot) {
+        Ok(base) => base,
+        Err(outcome) => return Ok(outcome),
+    };
+    let values = quote.values.as_slice();
     if let Some(pcr) = first_wrong(terms.bank(), terms.mask(), values, terms.statics()) {
-        return Ok(Verdict::Failed(FailedCause::Pcr(pcr)));
+        return Ok(failed(FailedCause::Pcr(pcr)));
     }
     let entries = match read_entries(alloc, evidence.list.as_str()) {
         Ok(entries) => entries,
         Err(ListFault::Line(place, fault)) => {
-            return Ok(Verdict::Failed(FailedCause::Line(place as u64, line_cause(fault))));
+            return Ok(failed(bad_line(base.count, place, fault)));
         }
         Err(ListFault::Memory) => return Err(AppraiseError::Memory),
     };
-    if entries.len() > LIST_LIMIT {
-        return Ok(Verdict::Failed(FailedCause::ListFull));
+    if base.count + entries.len() as u64 > LIST_LIMIT {
+        return Ok(failed(FailedCause::ListFull));
     }
-    Ok(judge_entries(terms, &entries, values, steps))
+    let verdict = judge_entries(terms, &base, &entries, values, steps);
+    Ok(Outcome::Verdict(verdict))
+}
+
+fn failed(cause: FailedCause) -> Outcome
+    ensures { result ≡ Outcome.Verdict (Verdict.Failed cause) }
+{
+    Outcome::Verdict(Verdict::Failed(cause))
+}
+
+/// What a reply begins behind that starts at this entry and whose quote signs this boot.
+fn base_of(bank: Bank, kept: Option<Kept>, start: u64, boot: Boot) -> Result<Base, Outcome>
+    requires { IfSome kept (λ k. IsKept bank k) }
+    ensures base { IfOk result (λ base. IsBase bank kept start boot base) }
+    ensures short { IfOk result (λ base. base.count ≤ LIST_LIMIT) }
+    ensures none { IfErr result (λ outcome. IsNoBase kept start boot outcome) }
+{
+    if start == 0 {
+        let pcr = bank.zeros();
+        return Ok(Base { count: 0, pcr });
+    }
+    let Some(kept) = kept else {
+        return Err(Outcome::Verdict(Verdict::Invalid(InvalidCause::Start)));
+    };
+    if start != kept.count {
+        return Err(Outcome::Verdict(Verdict::Invalid(InvalidCause::Start)));
+    }
+    if boot != kept.boot {
+        return Err(Outcome::Restart);
+    }
+    Ok(Base {
+        count: start,
+        pcr: kept.pcr,
+    })
 }
 
 /// The verdict on a list of entries that is not too long.
 fn judge_entries<L: Ledger>(
     terms: &Terms,
+    base: &Base,
     entries: &[Entry<'_>],
     values: &[u8],
     steps: &mut Steps<L>,
 ) -> Verdict
-    requires { length values.now ≡ size_of terms.now.bank * count_ones terms.now.mask }
-    ensures rules { JudgesEntries terms.now entries.now (value_at terms.now.bank terms.now.mask values.now LIST_PCR) result }
+    requires base { length base.now.pcr ≡ size_of terms.now.bank }
+    requires values { length values.now ≡ size_of terms.now.bank * count_ones terms.now.mask }
+    requires short { base.now.count + length entries.now ≤ LIST_LIMIT }
+    ensures rules { (n : ℕ) × (steps.new ≡ steps.old + n)
+        × JudgesEntries terms.now base.now entries.now (value_at terms.now.bank terms.now.mask values.now LIST_PCR) result n }
     ensures cost { steps.new ≤ steps.old + length entries.now }
-    ensures replayed { IsReplayed result }
 {
     let Some(quoted) = value(terms.bank(), terms.mask(), values, LIST_PCR) else {
         unreachable!()
     };
-    match find_cut(terms.bank(), terms.policy(), entries, &quoted, steps) {
+    match find_cut(terms.bank(), terms.policy(), base, entries, &quoted, steps) {
         None => Verdict::Failed(FailedCause::Unmatched),
         Some(
             Cut {
                 bad: Some((place, why)),
                 ..
             },
-        ) => Verdict::Failed(FailedCause::Entry(place as u64, entry_cause(why))),
-        Some(Cut { entries, bad: None }) => Verdict::Pass(entries as u64),
+        ) => Verdict::Failed(FailedCause::Entry(base.count + place as u64, entry_cause(why))),
+        Some(Cut { entries, bad: None }) => Verdict::Pass(base.count + entries as u64),
     }
+}
+
+/// The cause that a line at this place of a reply gives, which begins at this entry.
+fn bad_line(start: u64, place: usize, fault: LineFault) -> FailedCause
+    requires { start + place < 2 ^ 64 }
+    ensures { result ≡ FailedCause.Line (start + place) (line_cause fault) }
+{
+    FailedCause::Line(start + place as u64, line_cause(fault))
 }
 
 fn line_cause(fault: LineFault) -> LineCause

@@ -2,7 +2,7 @@
 
 ghost use Rattle.std.specs.Prelude.{IfOk, IfErr};
 ghost use Rattle.kl_entry.specs.Lines.{AreEntries};
-ghost use Rattle.kl_appraise.specs.Listed.{IsListFault};
+ghost use Rattle.kl_appraise.specs.Inner.Listed.{HasSmallPlace, IsListFault};
 
 use kl_entry::{Entry, LineFault, lines, read_entry};
 use std::alloc::{AllocFailed, Global};
@@ -30,6 +30,7 @@ impl<T: Drop> From<AllocFailed<T>> for ListFault {
 /// Reads all lines of a measurement list.
 pub fn read_entries(alloc: Global, list: &str) -> Result<Vec<Entry<'_>>, ListFault>
     ensures entries { IfOk result (λ entries. AreEntries list.now entries.items) }
+    ensures small { IfErr result HasSmallPlace }
     ensures fault { IfErr result (λ fault. IsListFault list.now fault) }
 {
     let mut entries = Vec::new(alloc);

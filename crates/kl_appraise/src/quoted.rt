@@ -1,20 +1,23 @@
 //! The rules on the quote alone.
 
-ghost use Rattle.std.specs.Prelude.{◌≡◌, ◌⊎◌, ◌*◌, ◌↔◌, Bool, length, count_ones, IfOk, IfSome, IfNone, IsErrOf, IsTrue, false};
-ghost use Rattle.kl_bank.specs.Banks.{alg_of, size_of};
+ghost use Rattle.std.specs.Prelude.{◌≡◌, ◌⊎◌, ◌*◌, ◌↔◌, Bool, length, count_ones, IfOk, IfErr, IfSome, IfNone, IsErrOf, IsTrue, None, Some, true, false};
+ghost use Rattle.std.specs.Result.{result_ok};
+ghost use Rattle.kl_bank.specs.Banks.{alg_of, name_of, size_of};
 ghost use Rattle.kl_attest.specs.Pcrs.{OneSet};
 ghost use Rattle.kl_attest.specs.Views.{view};
-ghost use Rattle.kl_keys.specs.Causes.{HasCause};
+ghost use Rattle.kl_io.specs.Calls.{HasCause};
 ghost use Rattle.kl_pcr.specs.Values.{IsSelected, value_at, binding_of};
+ghost use Rattle.kl_quote.specs.QuoteText.{IsQuoteText};
 ghost use Rattle.kl_appraise.specs.Evidence.{Attests, HasValues};
-ghost use Rattle.kl_appraise.specs.QuoteRules.{SignedRules, IsAnswered, IsUnasked, attest_cause};
-ghost use Rattle.kl_appraise.specs.Checked.{check_for, answer_of, ChecksAs, MeetsRules};
+ghost use Rattle.kl_appraise.specs.Asking.{Asked, AskedOnce};
+ghost use Rattle.kl_appraise.specs.QuoteRules.{◌otherwise◌, ByBank, ByAttest, SignedRules, MeetsRules, IsAnswered, IsUnasked, attest_cause};
+ghost use Rattle.kl_appraise.specs.Inner.Checked.{check_for, answer_of, ChecksAs, IsReadable};
 
 use crate::fault::AppraiseError;
 use crate::judged::Boot;
 use kl_attest::{Attest, AttestFault, Selections, read_attest};
 use kl_bank::Bank;
-use kl_keys::Keys;
+use kl_keys::{Keys, KeysFault};
 use kl_pcr::{binding, pcr_digest, value};
 use kl_quote::{Evidence, Quote, QuoteFault, read_quote};
 use kl_states::{AttestCause, Blob, InvalidCause, Nonce};
@@ -63,39 +66,38 @@ pub fn check_quote<Y: Keys>(
 ) -> Result<Checked, AppraiseError>
     requires binding { IsSelected wanted.now.mask BINDING_PCR }
     ensures rules { IfOk result (ChecksAs (check_for wanted.now evidence.now)) }
-    ensures answered { IfOk result (λ c. IsAnswered (Y.told keys.old) wanted.now.ak.now (check_for wanted.now evidence.now (answer_of c))) }
+    ensures answered { IfOk result (λ c. IsAnswered (Y.told keys.old).relations wanted.now.ak.now (check_for wanted.now evidence.now (answer_of c))) }
+    ensures question { IfOk result (λ c. IsUnasked (check_for wanted.now evidence.now false)
+        ⊎ Asked (Y.told keys.old) (Y.told keys.new) wanted.now.ak.now evidence.now.quote (Some (answer_of c))) }
+    ensures fault { IsErrOf result AppraiseError.Keys → Asked (Y.told keys.old) (Y.told keys.new) wanted.now.ak.now evidence.now.quote None }
     ensures asked { IsErrOf result AppraiseError.Keys → ¬ (IsUnasked (check_for wanted.now evidence.now false)) }
     ensures unasked { (keys.new ≡ keys.old) ⊎ (¬ (IsUnasked (check_for wanted.now evidence.now false))) }
-    ensures told { Y.told keys.new ≡ Y.told keys.old }
-    ensures cause { HasCause (Y.fault_count keys.old) (Y.fault_count keys.new) (IsErrOf result AppraiseError.Keys) }
+    ensures once { (keys.new ≡ keys.old) ⊎ AskedOnce (Y.told keys.old) (Y.told keys.new) wanted.now.ak.now evidence.now.quote }
+    ensures told { (Y.told keys.new).relations ≡ (Y.told keys.old).relations }
+    ensures spared { IsErrOf result AppraiseError.Keys ⊎ ((Y.told keys.new).calls.faults ≡ (Y.told keys.old).calls.faults) }
+    ensures cause { HasCause (Y.told keys.old).calls.faults (Y.told keys.new).calls.faults (IsErrOf result AppraiseError.Keys) }
 {
-    let Quote {
-        attest,
-        signature,
-        pcrs,
-    } = match read_quote(alloc, evidence.quote.as_str()) {
+    let quote = match read_quote(alloc, evidence.quote.as_str()) {
         Ok(quote) => quote,
         Err(QuoteFault::Form(part)) => return Ok(unasked(InvalidCause::Form(part))),
         Err(QuoteFault::Memory) => return Err(AppraiseError::Memory),
     };
-    if evidence.bank.as_str() != wanted.bank.name() {
-        return Ok(unasked(InvalidCause::Bank));
-    }
-    let read = match read_attest(attest.as_slice()) {
+    let read = match read_signed(wanted, evidence, &quote) {
         Ok(read) => read,
-        Err(fault) => return Ok(unasked(InvalidCause::Attest(cause_of(fault)))),
+        Err(why) => return Ok(unasked(why)),
     };
-    if !keys.verify(wanted.ak, attest.as_slice(), signature.as_slice())? {
+    if !ask(wanted.ak, evidence, &quote, keys)? {
         return Ok(Checked::Refused(InvalidCause::Signature, false));
     }
-    if let Some(why) = first_unmet(wanted, evidence, &read, pcrs.as_slice()) {
+    if let Some(why) = first_unmet(wanted, evidence, &read, quote.pcrs.as_slice()) {
         return Ok(Checked::Refused(why, true));
     }
     let boot = Boot {
         reset: read.reset,
         restart: read.restart,
     };
-    Ok(Checked::Sound(SoundQuote { boot, values: pcrs }))
+    let values = quote.pcrs;
+    Ok(Checked::Sound(SoundQuote { boot, values }))
 }
 
 /// A refusal for which the key object was not asked.
@@ -103,6 +105,26 @@ fn unasked(why: InvalidCause) -> Checked
     ensures { result ≡ Checked.Refused why false }
 {
     Checked::Refused(why, false)
+}
+
+/// What a quote of the wanted bank signs, or the rule that says that there is nothing to ask the key
+/// object for.
+fn read_signed<'a>(
+    wanted: &Wanted<'_>,
+    evidence: &Evidence,
+    quote: &'a Quote,
+) -> Result<Attest<'a>, InvalidCause>
+    requires { IsQuoteText evidence.now.quote quote.now.attest quote.now.signature quote.now.pcrs }
+    ensures found { IfOk result (λ read. IsReadable wanted.now.bank evidence.now quote.now.attest quote.now.signature quote.now.pcrs (view read)) }
+    ensures refused { IfErr result (λ why. (signed : Bool) → (ByBank (check_for wanted.now evidence.now signed) otherwise ByAttest (check_for wanted.now evidence.now signed)) why) }
+{
+    if evidence.bank.as_str() != wanted.bank.name() {
+        return Err(InvalidCause::Bank);
+    }
+    match read_attest(quote.attest.as_slice()) {
+        Ok(read) => Ok(read),
+        Err(fault) => Err(InvalidCause::Attest(cause_of(fault))),
+    }
 }
 
 fn cause_of(fault: AttestFault) -> AttestCause
@@ -117,6 +139,19 @@ fn cause_of(fault: AttestFault) -> AttestCause
     }
 }
 
+/// Whether the signature of a quote is the attestation key's.
+fn ask<Y: Keys>(
+    ak: &[u8],
+    evidence: &Evidence,
+    quote: &Quote,
+    keys: &mut Y,
+) -> Result<bool, KeysFault>
+    requires { IsQuoteText evidence.now.quote quote.now.attest quote.now.signature quote.now.pcrs }
+    ensures { Asked (Y.told keys.old) (Y.told keys.new) ak.now evidence.now.quote (result_ok result) }
+{
+    keys.verify(ak, quote.attest.as_slice(), quote.signature.as_slice())
+}
+
 /// The first rule that what was signed does not meet.
 fn first_unmet(
     wanted: &Wanted<'_>,
@@ -125,10 +160,11 @@ fn first_unmet(
     values: &[u8],
 ) -> Option<InvalidCause>
     requires binding { IsSelected wanted.now.mask BINDING_PCR }
+    requires bank { evidence.now.bank ≡ name_of wanted.now.bank }
     requires attests { Attests evidence.now.quote (view read.now) }
     requires values { HasValues evidence.now.quote values.now }
     ensures found { IfSome result (λ why. (signed : Bool) → SignedRules (check_for wanted.now evidence.now signed) why) }
-    ensures none { IfNone result ((signed : Bool) → MeetsRules (check_for wanted.now evidence.now signed) (view read.now) values.now) }
+    ensures none { IfNone result (MeetsRules (check_for wanted.now evidence.now true) (view read.now) values.now) }
 {
     if read.extra != wanted.nonce.as_str().as_bytes() {
         return Some(InvalidCause::Nonce);

@@ -1,9 +1,10 @@
 //! The replay of a measurement list, up to the quoted value of PCR 10.
 
-ghost use Rattle.std.specs.Prelude.{◌≡◌, ◌+◌, ◌≤◌, length, take, IfSome, IfNone};
+ghost use Rattle.std.specs.Prelude.{◌≡◌, ◌+◌, ◌<◌, ◌↔◌, IsTrue, length, take, IfSome, IfNone};
+ghost use Rattle.kl_bank.specs.Banks.{size_of};
 ghost use Rattle.kl_entry.specs.Entries.{data_of};
 ghost use Rattle.kl_policy.specs.Policy.{IsFirstBad};
-ghost use Rattle.kl_appraise.specs.Listed.{IsShortest, NoneReplays, with_next};
+ghost use Rattle.kl_appraise.specs.Inner.Listed.{IsShortest, NoneGives, with_next};
 
 use kl_bank::{Bank, Digest};
 use kl_entry::{Entry, EntryData, consistent_with};
@@ -11,7 +12,16 @@ use kl_pcr::{Steps, measured_with};
 use kl_policy::{Policy, Why};
 use std::sync::ledger::Ledger;
 
-/// The beginning of a measurement list that a quote covers.
+/// The accepted entries that a reply begins behind.
+#[derive(Clone, Copy)]
+pub struct Base {
+    /// How many they are.
+    pub count: u64,
+    /// What PCR 10 holds after them.
+    pub pcr: Digest,
+}
+
+/// The beginning of a reply's entries that a quote covers.
 #[derive(Clone, Copy)]
 pub struct Cut {
     /// How many entries it has.
@@ -20,21 +30,30 @@ pub struct Cut {
     pub bad: Option<(usize, Why)>,
 }
 
-/// The shortest beginning of the list that is not empty and replays to the quoted value, if one does. No
-/// entry behind it is hashed.
+/// The shortest beginning of the entries that, extended onto the base, gives the quoted value, if one
+/// does. It may be empty where the base is not. No entry behind it is measured.
 pub fn find_cut<L: Ledger>(
     bank: Bank,
     policy: &Policy,
+    base: &Base,
     entries: &[Entry<'_>],
     quoted: &Digest,
     steps: &mut Steps<L>,
 ) -> Option<Cut>
-    ensures found { IfSome result (λ cut. IsShortest bank entries.now quoted.now cut.entries) }
+    requires { length base.now.pcr ≡ size_of bank }
+    ensures found { IfSome result (λ cut. IsShortest bank base.now entries.now quoted.now cut.entries) }
     ensures bad { IfSome result (λ cut. IsFirstBad policy.now (take cut.entries entries.now) cut.bad) }
-    ensures none { IfNone result (NoneReplays bank entries.now quoted.now (length entries.now)) }
-    ensures cost { steps.new ≤ steps.old + length entries.now }
+    ensures none { IfNone result (NoneGives bank base.now entries.now quoted.now (length entries.now)) }
+    ensures cut_cost { IfSome result (λ cut. steps.new ≡ steps.old + cut.entries) }
+    ensures cost { IfNone result (steps.new ≡ steps.old + length entries.now) }
 {
-    let mut held = bank.zeros();
+    if is_given(base, quoted) {
+        return Some(Cut {
+            entries: 0,
+            bad: None,
+        });
+    }
+    let mut held = base.pcr;
     let mut bad = None;
     let mut laid_out = EntryData::new();
     for (i, entry) in entries.iter().enumerate() {
@@ -49,6 +68,13 @@ pub fn find_cut<L: Ledger>(
         }
     }
     None
+}
+
+/// Whether the base alone gives the quoted value, without a further entry.
+fn is_given(base: &Base, quoted: &Digest) -> bool
+    ensures { IsTrue result ↔ ((0 < base.now.count) × (base.now.pcr ≡ quoted.now)) }
+{
+    base.count > 0 && base.pcr.as_slice() == quoted.as_slice()
 }
 
 /// The first entry that the policy does not allow, once this entry is looked at too. It is not looked

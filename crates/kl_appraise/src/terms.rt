@@ -1,5 +1,7 @@
 //! What an agent is appraised under.
 
+mod changed;
+
 ghost use Rattle.std.specs.Prelude.{◌≡◌, IfOk, IsErrOf, IsTrue, ◌↔◌, string_bytes};
 ghost use Rattle.kl_pcr.specs.Statics.{AreStatics};
 ghost use Rattle.kl_appraise.specs.Terms.{AreTerms, IsMask};
@@ -36,7 +38,7 @@ impl Model for Terms {
 
     ghost coded = { Prim.hlevel (codes, digest_map_code) };
 
-    ghost use Rattle.kl_appraise.specs.Kept.{fields_of};
+    ghost use Rattle.kl_appraise.specs.Inner.TermsView.{fields_of};
 
     ghost view = { fields_of };
 

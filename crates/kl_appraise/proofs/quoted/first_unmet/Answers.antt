@@ -1,10 +1,10 @@
 -- Which of the rules on what was signed is the first that is not met.
-use Rattle.std.proofs.Common.{◌≡◌, ◌≢◌, ℕ, ◌*◌, count_ones, sym, ap, ◌∙◌, rules}
+use Rattle.std.proofs.Common.{◌≡◌, ◌≢◌, ℕ, ◌*◌, count_ones, refl, sym, ap, ◌∙◌, rules}
 use Rattle.std.proofs.lemmas.Bool.{false≢true}
 use Rattle.sha2.specs.Sha256.{sha256}
 use Rattle.kl_attest.specs.Views.{view}
 use Rattle.kl_pcr.specs.Values.{binding_of}
-use Rattle.kl_appraise.specs.Checked.{check_for}
+use Rattle.kl_appraise.specs.Inner.Checked.{check_for}
 use Rattle.kl_appraise.proofs.QuoteFacts.{by_selection, by_length, by_digest, by_binding}
 use Rattle.kl_appraise.proofs.quoted.first_unmet.Goals as goal
 
@@ -39,3 +39,16 @@ returns-then-not-is_bound-clause-found c = λ signed.
     (c.if-values-size.false ∙ ap (λ (n : ℕ). n * count_ones c.args.wanted.now.mask) c.size.ensures)
     digest
     (λ e. false≢true (sym c.if-not-is_bound.true ∙ c.is_bound.ensures.1 (e ∙ ap (binding_of c.args.wanted.now.bank) (sym c.as_str-2.ensures))))
+
+pub returns-clause-none : goal.returns-clause-none
+returns-clause-none c = record {
+  attests = c.requires.attests;
+  has_values = c.requires.values;
+  bank = c.requires.bank;
+  signed = refl;
+  nonce = search rules;
+  selection = c.selects.ensures.0 c.if-not-selects.false;
+  sized = c.if-values-size.false ∙ ap (λ (n : ℕ). n * count_ones c.args.wanted.now.mask) c.size.ensures;
+  digest = search rules;
+  binding = c.is_bound.ensures.0 c.if-not-is_bound.false ∙ ap (binding_of c.args.wanted.now.bank) c.as_str-2.ensures;
+}

@@ -1,52 +1,41 @@
--- The verdict, by what the quote shows and by what the list shows.
-use Rattle.std.proofs.Common.{◌≡◌, false, true, Err, ap, subst}
-use Rattle.std.proofs.lemmas.Result.{err_from_is_err_and}
-use Rattle.kl_states.specs.declared.verdict.Verdict.TheVariants.{Invalid}
-use Rattle.kl_appraise.specs.declared.fault.AppraiseError.TheVariants.{Keys}
-use Rattle.kl_appraise.specs.Checked.{ChecksAs}
-use Rattle.kl_appraise.specs.Outcome.{whole_case}
-use Rattle.kl_appraise.proofs.GenuineFacts.{asked_at, check_at, unasked_at, genuine_passes, refused_verdict, sound_verdict}
+-- Nothing is kept, which stands for no entry.
+use Rattle.std.proofs.Common.{[], refl, sym, subst, inl, inr, arith}
+use Rattle.std.specs.declared.option.Option.{Option}
+use Rattle.kl_appraise.specs.declared.judged.Boot.{Boot}
+use Rattle.kl_appraise.specs.ListRules.{Outcome}
+use Rattle.kl_appraise.specs.Kept.{IsNext}
+use Rattle.kl_appraise.specs.Outcome.{IsOutcome, HasBoot, Measures, whole_case}
+use Rattle.kl_appraise.specs.Shown.{ShowsList}
+use Rattle.kl_appraise.proofs.GenuineFacts.{genuine_passes}
+use Rattle.kl_appraise.proofs.OutcomeFacts.{has_boot, measured_none, no_restart}
 use Rattle.kl_appraise.proofs.whole.appraise_whole.Goals as goal
 
-pub returns-in-Refused-clause-verdict : goal.returns-in-Refused-clause-verdict
-returns-in-Refused-clause-verdict g c =
-    let rule = subst (ChecksAs (λ signed. check_at (whole_case c.args.terms.now c.args.nonce.now c.args.evidence.now signed) c.bank.result c.mask.result)) c.in-Refused.is c.in_ok-quote.ensures.rules in
-    refused_verdict (whole_case c.args.terms.now c.args.nonce.now c.args.evidence.now c.in-Refused.signed) c.bank.result c.mask.result c.in-Refused.why c.bank.ensures c.mask.ensures.value rule
-
-pub returns-in-Refused-clause-genuine : goal.returns-in-Refused-clause-genuine
-returns-in-Refused-clause-genuine g c = λ genuine allows.
-    genuine_passes (whole_case c.args.terms.now c.args.nonce.now c.args.evidence.now c.in-Refused.signed) (Invalid c.in-Refused.why) genuine allows (returns-in-Refused-clause-verdict g c)
+pub unreachable-requires : goal.unreachable-requires
+unreachable-requires g c =
+    no_restart c.args.terms.now c.args.nonce.now c.args.evidence.now c.in_ok-found.found.signed
+    (subst (IsOutcome (whole_case c.args.terms.now c.args.nonce.now c.args.evidence.now c.in_ok-found.found.signed)) c.in-Restart.is (c.in_ok-found.ensures.outcome [] _ refl))
 
 pub returns-clause-verdict : goal.returns-clause-verdict
 returns-clause-verdict g c =
-    let sound = subst (ChecksAs (λ signed. check_at (whole_case c.args.terms.now c.args.nonce.now c.args.evidence.now signed) c.bank.result c.mask.result)) c.in-Sound.is c.in_ok-quote.ensures.rules in
-    sound_verdict (whole_case c.args.terms.now c.args.nonce.now c.args.evidence.now true) c.bank.result c.mask.result c.in_ok-verdict.verdict c.bank.ensures c.mask.ensures.value sound.5
-    (c.in_ok-verdict.ensures.rules c.args.nonce.now true)
+    subst (IsOutcome (whole_case c.args.terms.now c.args.nonce.now c.args.evidence.now c.in_ok-found.found.signed)) c.in-Verdict.is (c.in_ok-found.ensures.outcome [] _ refl)
+
+pub returns-clause-boot : goal.returns-clause-boot
+returns-clause-boot g c =
+    let next = subst (λ (o : Outcome). IsNext c.args.terms.now c.args.evidence.now.quote o c.in_ok-found.found.next) c.in-Verdict.is c.in_ok-found.ensures.next in
+    subst (λ (boot : Option Boot). HasBoot c.args.evidence.now.quote c.in-Verdict.verdict boot) (sym c.boot_in.ensures)
+    (has_boot c.args.terms.now c.args.evidence.now.quote c.in-Verdict.verdict c.in_ok-found.found.next next)
+
+pub returns-clause-list : goal.returns-clause-list
+returns-clause-list g c =
+    subst (ShowsList (whole_case c.args.terms.now c.args.nonce.now c.args.evidence.now c.in_ok-found.found.signed)) c.in-Verdict.is (c.in_ok-found.ensures.list [] _ refl)
 
 pub returns-clause-genuine : goal.returns-clause-genuine
 returns-clause-genuine g c = λ genuine allows.
-    genuine_passes (whole_case c.args.terms.now c.args.nonce.now c.args.evidence.now true) c.in_ok-verdict.verdict genuine allows (returns-clause-verdict g c)
+    genuine_passes (whole_case c.args.terms.now c.args.nonce.now c.args.evidence.now c.in_ok-found.found.signed) c.in-Verdict.verdict genuine allows (returns-clause-verdict g c)
 
-pub returns-in_err-quote-clause-asked : goal.returns-in_err-quote-clause-asked
-returns-in_err-quote-clause-asked g c =
-    let p = err_from_is_err_and c.from_residual.result c.from_residual.ensures.1 in
-    rw (p.1, p.2) (λ e.
-    let blamed : c.in_err-quote.field-0.0 ≡ Keys = cc in
-    let case = whole_case c.args.terms.now c.args.nonce.now c.args.evidence.now false in
-    asked_at case c.bank.result c.mask.result c.bank.ensures c.mask.ensures.value (c.in_err-quote.ensures.asked (ap Err blamed)))
-
-pub returns-in-Refused-clause-unasked : goal.returns-in-Refused-clause-unasked
-returns-in-Refused-clause-unasked g c =
-    unasked_at _ _ (whole_case c.args.terms.now c.args.nonce.now c.args.evidence.now false) c.bank.result c.mask.result c.bank.ensures c.mask.ensures.value c.check_quote.ensures.unasked
-
-pub returns-clause-unasked : goal.returns-clause-unasked
-returns-clause-unasked g c =
-    unasked_at _ _ (whole_case c.args.terms.now c.args.nonce.now c.args.evidence.now false) c.bank.result c.mask.result c.bank.ensures c.mask.ensures.value c.check_quote.ensures.unasked
-
-pub returns-in_err-quote-clause-unasked : goal.returns-in_err-quote-clause-unasked
-returns-in_err-quote-clause-unasked g c =
-    unasked_at _ _ (whole_case c.args.terms.now c.args.nonce.now c.args.evidence.now false) c.bank.result c.mask.result c.bank.ensures c.mask.ensures.value c.check_quote.ensures.unasked
-
-pub returns-in_err-verdict-clause-unasked : goal.returns-in_err-verdict-clause-unasked
-returns-in_err-verdict-clause-unasked g c =
-    unasked_at _ _ (whole_case c.args.terms.now c.args.nonce.now c.args.evidence.now false) c.bank.result c.mask.result c.bank.ensures c.mask.ensures.value c.check_quote.ensures.unasked
+pub returns-clause-idle : goal.returns-clause-idle
+returns-clause-idle g c =
+    let (n, cost, measured) = c.in_ok-found.ensures.measured in
+    let case = whole_case c.args.terms.now c.args.nonce.now c.args.evidence.now c.in_ok-found.found.signed in
+    let here = subst (λ (o : Outcome). Measures case o n) c.in-Verdict.is (measured [] _ refl) in
+    elim (measured_none case c.in-Verdict.verdict n here) [ inl replayed ↦ inl replayed | inr none ↦ inr (omega (arith, cost, none)) ]

@@ -1,0 +1,305 @@
+-- A poll is closed: the record meets its row, and what is kept of agents is what the records say.
+use Rattle.std.proofs.Common.{◌≡◌, ℕ, ◌+◌, ◌≤◌, Bool, true, false, List, [], ◌∷◌, ◌++◌, length, take, Option, Some, None, refl, ap, sym, ◌∙◌, subst, arith}
+use Rattle.std.specs.Prelude.{⊤, is_some, IfSome, IsSome}
+use Rattle.std.specs.Option.{option_map, option_map_or}
+use Rattle.std.specs.Ordering.{nat_cmp}
+use Rattle.std.specs.Str.{bytes_eq}
+use Rattle.std.specs.Cmp.Lexicographic.{slice_cmp}
+use Rattle.std.specs.BTreeMap.{BTreeMap, get, btree_map_len, Updates, is_at}
+use Rattle.std.specs.Map.{lookup}
+use Rattle.std.proofs.lemmas.Bool.{both_ways}
+use Rattle.std.proofs.lemmas.Option.{same_Some}
+use lib.Dec.{eqb}
+use Rattle.kl_entry.specs.Entries.{EntryFields}
+use Rattle.kl_quote.specs.declared.evidence.Evidence.{Evidence}
+use Rattle.kl_quote.specs.Size.{total_bytes}
+use Rattle.kl_states.specs.declared.outcome.DropWhy.{DropWhy}
+use Rattle.kl_states.specs.declared.verdict.Verdict.TheVariants.{Pass, Failed, Invalid}
+use Rattle.kl_appraise.specs.declared.judged.Boot.{Boot}
+use Rattle.kl_appraise.specs.Terms.{TermsFields}
+use Rattle.kl_appraise.specs.ListRules.{boot_of}
+use Rattle.kl_appraise.specs.Outcome.{IsOutcome}
+use Rattle.kl_incr.specs.Kept.{TicketFields}
+use Rattle.kl_appraise.specs.Kept.{Stands, from_of}
+use Rattle.kl_incr.specs.Appraisal.{case_of, IsAppraisal}
+use Rattle.kl_appraise.specs.declared.kept.Kept.{Kept}
+use Rattle.kl_appraise.specs.declared.judged.Outcome.{Outcome as Finding}
+use Rattle.kl_appraise.specs.declared.judged.Outcome.TheVariants as finding
+use Rattle.kl_history.specs.declared.record.Record.{Record}
+use Rattle.kl_history.specs.declared.record.Record.TheVariants.{Verdict, Dropped}
+use Rattle.kl_history.specs.Records.{History, Past, Start, begins, closes, is_open, is_poll_of, belongs, own, is_close, is_release}
+use Rattle.kl_history.specs.LookBacks.{installed}
+use Rattle.kl_history.specs.Accepted.{no_boot, HasAccepted, WasAccepted}
+use Rattle.kl_history.specs.States.{ended, is_current}
+use Rattle.kl_history.specs.Legal.{is_add, is_remove, IsCaseOf, MayClose, Row, weight_of}
+use Rattle.kl_core.specs.declared.entry.Entry.{Entry}
+use Rattle.kl_core.specs.declared.entry.Opening.{Opening}
+use Rattle.kl_core.specs.Tickets.{IsGiven}
+use Rattle.kl_core.specs.States.{Accepted}
+use Rattle.kl_core.specs.Closes.{record_by}
+use Rattle.kl_core.specs.Inner.Keeping.{Says, IsEntry, HasEntry, IsOpening, HasOpening, IsBook}
+use Rattle.kl_core.specs.Inner.Steps.{found, NotedIf}
+use Rattle.kl_core.proofs.Texts.{eq_yes}
+use Rattle.kl_core.proofs.OneMore.{Calm, Quiet, quiet_verdict, quiet_restart, quiet_dropped}
+use Rattle.kl_core.proofs.Ours.{own_ours, says_dropped, says_passed, says_failed, says_invalid, says_restarted, says_stale_verdict, says_stale_restart}
+use Rattle.kl_core.proofs.Keeping.{agents_at, BeginsNone, entry_step, has_theirs}
+use Rattle.kl_core.proofs.Findings.{restart_signed, same_outcome, same_whole, passes_from_first}
+use Rattle.kl_core.proofs.Standing.{kept_installed}
+use Rattle.kl_core.proofs.Growing.{book_closed}
+
+-- ---- the row
+may_close : (past : Past) (t : TicketFields) (now : Bool) → IsGiven past t → is_open past t.poll ≡ true → now ≡ is_current (own past t.agent) t.generation → MayClose past t.poll now
+may_close past t now given opened current = record {
+  started = record { agent = t.agent; generation = t.generation; nonce = t.nonce; at = given.at; from = from_of t.kept };
+  began = given.began;
+  unclosed = opened;
+  current = current;
+}
+
+-- what a poll of the whole list is appraised as
+is_case : (past : Past) (t : TicketFields) (e : Evidence) (s : Bool) (entries : List EntryFields) (boot : Boot) → IsGiven past t → is_open past t.poll ≡ true
+    → WasAccepted t.poll (own past t.agent) entries boot → (f : Finding) (next : Option Kept) → IsAppraisal t e s f next → IsCaseOf past t.poll e s (case_of t entries boot e s)
+is_case past t e s entries boot given opened was f next appraised = record {
+  started = record { agent = t.agent; generation = t.generation; nonce = t.nonce; at = given.at; from = from_of t.kept };
+  began = given.began;
+  unclosed = opened;
+  terms = given.terms;
+  nonce = refl;
+  from = refl;
+  accepted = was;
+  evidence = refl;
+  signed = refl;
+  unasked = appraised.unasked;
+}
+
+-- ---- what a pass accepts
+from_none : (k : Option Kept) → k ≡ None → from_of k ≡ 0
+from_none None is = refl
+from_none (Some k) is = cc
+
+stands_none : (k : Option Kept) (boot : Boot) (t : TermsFields) → k ≡ None → Stands k [] boot t
+stands_none None boot t is = refl
+stands_none (Some k) boot t is = cc
+
+counted_entries : (k : Option Kept) (entries : List EntryFields) (boot : Boot) (t : TermsFields) → Stands k entries boot t → length entries ≡ from_of k
+counted_entries None entries boot t is = ap (λ (es : List EntryFields). length es) is
+counted_entries (Some k) entries boot t is = sym is.count
+
+-- the case of a ticket that keeps nothing, as that of a poll of the whole list
+outcome_any : (t : TicketFields) (e : Evidence) (s : Bool) (f : Finding) (next : Option Kept) (entries : List EntryFields) (boot : Boot) → t.kept ≡ None → IsAppraisal t e s f next
+    → IsOutcome (case_of t entries boot e s) f
+outcome_any t e s f next entries boot none appraised =
+    let before : IsOutcome (case_of t [] no_boot e s) f = appraised.outcome [] no_boot (stands_none t.kept no_boot t.terms none) in
+    let zero = from_none t.kept none in
+    let P : List EntryFields → Boot → ℕ → Type 0 = λ es b n. IsOutcome (record { terms = t.terms; nonce = t.nonce; from = n; prefix = es; boot = b; evidence = e; signed = s }) f in
+    subst (P entries boot) (sym zero) (same_outcome t.terms t.nonce e s [] entries no_boot boot f (subst (P [] no_boot) zero before))
+
+row_found : (past : Past) (t : TicketFields) (e : Evidence) (s : Bool) (f : Finding) (next : Option Kept) (now : Bool) (entries : List EntryFields) (boot : Boot)
+    → IsGiven past t → is_open past t.poll ≡ true → WasAccepted t.poll (own past t.agent) entries boot → IsAppraisal t e s f next
+    → now ≡ is_current (own past t.agent) t.generation → Row past (record_by t.poll e s f now)
+row_found past t e s (finding.Verdict v) next now entries boot given opened was appraised current = (
+  may_close past t now given opened current,
+  (
+    case_of t entries boot e s,
+    is_case past t e s entries boot given opened was (finding.Verdict v) next appraised,
+    outcome_any t e s (finding.Verdict v) next entries boot given.kept appraised,
+  ),
+)
+row_found past t e s finding.Restart next now entries boot given opened was appraised current = (
+  may_close past t now given opened current,
+  restart_signed (case_of t entries boot e s) (outcome_any t e s finding.Restart next entries boot given.kept appraised),
+  (
+    case_of t entries boot e s,
+    is_case past t e s entries boot given opened was finding.Restart next appraised,
+    outcome_any t e s finding.Restart next entries boot given.kept appraised,
+  ),
+)
+
+pass_accepts : (past : Past) (t : TicketFields) (e : Evidence) (s : Bool) (cut : ℕ) (next : Option Kept) (entries : List EntryFields) (boot : Boot)
+    → t.kept ≡ None → WasAccepted t.poll past entries boot → IsAppraisal t e s (finding.Verdict (Pass cut)) next
+    → Accepted (Verdict t.poll e s (Pass cut) true ∷ past) (from_of next)
+unfolding HasAccepted
+pass_accepts past t e s cut next entries boot none was appraised =
+    let keeps = appraised.keeps [] no_boot (stands_none t.kept no_boot t.terms none) in
+    let zero = from_none t.kept none in
+    let P : ℕ → Type 0 = λ n. IsOutcome (record { terms = t.terms; nonce = t.nonce; from = n; prefix = []; boot = no_boot; evidence = e; signed = s }) ((finding.Verdict (Pass cut))) in
+    let first = passes_from_first t.terms t.nonce e s [] no_boot cut (subst P zero (appraised.outcome [] no_boot (stands_none t.kept no_boot t.terms none))) in
+    let whole = keeps.1 in
+    let quoted = keeps.2 in (
+      take cut whole,
+      boot_of quoted,
+      (entries, boot, was, record { whole = whole; continues = same_whole e [] entries whole first keeps.4; front = refl; signs = (quoted, keeps.5, refl) }),
+      counted_entries next (take cut whole) (boot_of quoted) t.terms keeps.6,
+    )
+
+-- ---- what is kept of agents
+stale_found : (past : Past) (p : ℕ) (e : Evidence) (s : Bool) (f : Finding) (t : TermsFields) (entry : Entry) → Says past t entry → Says (record_by p e s f false ∷ past) t entry
+stale_found past p e s (finding.Verdict v) t entry says = says_stale_verdict past p e s v t entry says
+stale_found past p e s finding.Restart t entry says = says_stale_restart past p e s t entry says
+
+current_found : (past : Past) (k : TicketFields) (e : Evidence) (s : Bool) (f : Finding) (next : Option Kept) (entries : List EntryFields) (boot : Boot) (t : TermsFields) (entry : Entry)
+    → k.kept ≡ None → WasAccepted k.poll past entries boot → IsAppraisal k e s f next → Says past t entry → ended past ≡ None
+    → Says (record_by k.poll e s f true ∷ past) t (found k.poll f (from_of next) entry)
+current_found past k e s (finding.Verdict (Pass cut)) next entries boot t entry none was appraised says live =
+    says_passed past k.poll e s cut t (from_of next) entry says live (pass_accepts past k e s cut next entries boot none was appraised)
+current_found past k e s (finding.Verdict (Failed why)) next entries boot t entry none was appraised says live = says_failed past k.poll e s why t (from_of next) entry says live
+current_found past k e s (finding.Verdict (Invalid why)) next entries boot t entry none was appraised says live = says_invalid past k.poll e s why t (from_of next) entry says live
+current_found past k e s finding.Restart next entries boot t entry none was appraised says live = says_restarted past k.poll e s t (from_of next) entry says live
+
+-- a record that changes nothing of what is said of an agent
+has_same : (H : History) (past : Past) (r : Record) (a : List ℕ) (o : Option Entry) → Calm past r → BeginsNone past r a
+    → ((own_past : Past) → installed (r ∷ own_past) ≡ installed own_past) → ((own_past : Past) (t : TermsFields) (e : Entry) → Says own_past t e → Says (r ∷ own_past) t e)
+    → HasEntry H past a o → HasEntry (H ++ r ∷ []) (r ∷ past) a o
+has_same H past r a o calm none same_installed same_says has = by_belonging (belongs past a r) refl o has where
+  by_belonging : (b : Bool) → belongs past a r ≡ b → (o : Option Entry) → HasEntry H past a o → HasEntry (H ++ r ∷ []) (r ∷ past) a o
+  by_belonging false is o has = has_theirs H past r a o calm none is has
+  by_belonging true is None has = ap installed (own_ours past r a is) ∙ same_installed (own past a) ∙ has
+  by_belonging true is (Some e) has =
+      entry_step H past r a e e calm refl refl refl none has
+      (subst (λ (own_past : Past). Says own_past has.with e) (sym (own_ours past r a is)) (same_says (own past a) has.with e has.says))
+
+-- the record of a poll belongs to the agent of its ticket
+poll_is_of : (past : Past) (t : TicketFields) (a : List ℕ) → IsGiven past t → is_poll_of past a t.poll ≡ bytes_eq a t.agent
+poll_is_of past t a given = ap (λ o. option_map_or (λ (s : Start). bytes_eq a s.agent) o false) given.began
+
+found_belongs : (past : Past) (t : TicketFields) (e : Evidence) (s : Bool) (f : Finding) (now : Bool) (a : List ℕ) → IsGiven past t → belongs past a (record_by t.poll e s f now) ≡ bytes_eq a t.agent
+found_belongs past t e s (finding.Verdict v) now a given = poll_is_of past t a given
+found_belongs past t e s finding.Restart now a given = poll_is_of past t a given
+
+found_quiet : (past : Past) (p : ℕ) (e : Evidence) (s : Bool) (f : Finding) (now : Bool) → Quiet past (record_by p e s f now)
+found_quiet past p e s (finding.Verdict v) now = quiet_verdict past p e s v now
+found_quiet past p e s finding.Restart now = quiet_restart past p e s now
+
+found_begins : (p : ℕ) (e : Evidence) (s : Bool) (f : Finding) (now : Bool) (q : ℕ) → begins q (record_by p e s f now) ≡ false
+found_begins p e s (finding.Verdict v) now q = refl
+found_begins p e s finding.Restart now q = refl
+
+found_installed : (p : ℕ) (e : Evidence) (s : Bool) (f : Finding) (now : Bool) (own_past : Past) → installed (record_by p e s f now ∷ own_past) ≡ installed own_past
+found_installed p e s (finding.Verdict v) now own_past = refl
+found_installed p e s finding.Restart now own_past = refl
+
+-- what is known of the agent's entry where the generation is current
+abbrev pub IsCurrentEntry : History → Past → TicketFields → Option Entry → Type 0
+IsCurrentEntry H past t None = ⊤
+IsCurrentEntry H past t (Some e) = IsEntry H past t.agent e × (e.end ≡ None)
+
+found_generation : (p : ℕ) (f : Finding) (n : ℕ) (e : Entry) → (found p f n e).generation ≡ e.generation
+found_generation p (finding.Verdict (Pass cut)) n e = refl
+found_generation p (finding.Verdict (Failed why)) n e = refl
+found_generation p (finding.Verdict (Invalid why)) n e = refl
+found_generation p finding.Restart n e = refl
+
+found_place : (p : ℕ) (f : Finding) (n : ℕ) (e : Entry) → (found p f n e).place ≡ e.place
+found_place p (finding.Verdict (Pass cut)) n e = refl
+found_place p (finding.Verdict (Failed why)) n e = refl
+found_place p (finding.Verdict (Invalid why)) n e = refl
+found_place p finding.Restart n e = refl
+
+found_latest : (p : ℕ) (f : Finding) (n : ℕ) (e : Entry) → (found p f n e).latest ≡ e.latest
+found_latest p (finding.Verdict (Pass cut)) n e = refl
+found_latest p (finding.Verdict (Failed why)) n e = refl
+found_latest p (finding.Verdict (Invalid why)) n e = refl
+found_latest p finding.Restart n e = refl
+
+-- what is kept of agents after a finding
+pub agents_found : (H : History) (past : Past) (agents agents' : BTreeMap (List ℕ) Entry) (t : TicketFields) (e : Evidence) (s : Bool) (f : Finding) (next : Option Kept)
+    (entries : List EntryFields) (boot : Boot) (entry : Option Entry)
+    → ((a : List ℕ) → HasEntry H past a (get (slice_cmp nat_cmp) agents a)) → IsGiven past t → WasAccepted t.poll (own past t.agent) entries boot → IsAppraisal t e s f next
+    → IsCurrentEntry H past t entry → NotedIf agents agents' t.agent (option_map (found t.poll f (from_of next)) entry)
+    → (b : List ℕ) → HasEntry (H ++ record_by t.poll e s f (is_some entry) ∷ []) (record_by t.poll e s f (is_some entry) ∷ past) b (get (slice_cmp nat_cmp) agents' b)
+agents_found H past agents agents' t e s f next entries boot None are given was appraised known noted b =
+    let calm : Calm past (record_by t.poll e s f false) = (found_quiet past t.poll e s f false).calm in
+    let same : get (slice_cmp nat_cmp) agents' b ≡ get (slice_cmp nat_cmp) agents b = ap (λ (es : List (List ℕ × Entry)). lookup (is_at (slice_cmp nat_cmp b)) es) noted in
+    subst (λ (o : Option Entry). HasEntry (H ++ record_by t.poll e s f false ∷ []) (record_by t.poll e s f false ∷ past) b o) (sym same)
+    (has_same H past (record_by t.poll e s f false) b (get (slice_cmp nat_cmp) agents b) calm (λ q started is agent. found_begins t.poll e s f false q)
+    (found_installed t.poll e s f false) (λ own_past terms entry says. stale_found own_past t.poll e s f terms entry says) (are b))
+agents_found H past agents agents' t e s f next entries boot (Some entry) are given was appraised known noted b =
+    let calm : Calm past (record_by t.poll e s f true) = (found_quiet past t.poll e s f true).calm in
+    let ours : own (record_by t.poll e s f true ∷ past) t.agent ≡ record_by t.poll e s f true ∷ own past t.agent =
+    own_ours past (record_by t.poll e s f true) t.agent (found_belongs past t e s f true t.agent given ∙ eq_yes t.agent t.agent refl) in
+    agents_at agents agents' t.agent (Some (found t.poll f (from_of next) entry)) noted
+    (λ b o. HasEntry (H ++ record_by t.poll e s f true ∷ []) (record_by t.poll e s f true ∷ past) b o)
+    (entry_step H past (record_by t.poll e s f true) t.agent entry (found t.poll f (from_of next) entry) calm
+    (found_generation t.poll f (from_of next) entry) (found_place t.poll f (from_of next) entry) (found_latest t.poll f (from_of next) entry)
+    (λ q started is agent. found_begins t.poll e s f true q) known.0
+    (subst (λ (own_past : Past). Says own_past known.0.with (found t.poll f (from_of next) entry)) (sym ours)
+    (current_found (own past t.agent) t e s f next entries boot known.0.with entry given.kept was appraised known.0.says (known.0.says.end_is ∙ known.1))))
+    (λ b apart. has_theirs H past (record_by t.poll e s f true) b _ calm (λ q started is agent. found_begins t.poll e s f true q) (found_belongs past t e s f true b given ∙ apart) (are b))
+    b
+
+found_closes : (p : ℕ) (e : Evidence) (s : Bool) (f : Finding) (now : Bool) (q : ℕ) → closes q (record_by p e s f now) ≡ eqb q p
+found_closes p e s (finding.Verdict v) now q = refl
+found_closes p e s finding.Restart now q = refl
+
+-- the kinds of record that a finding's is, and is not
+record FoundKinds (r : Record) (bytes : ℕ) : Type 0 where
+  pub close : is_close r ≡ true
+  pub add : is_add r ≡ false
+  pub remove : is_remove r ≡ false
+  pub release : is_release r ≡ false
+  pub weight : weight_of r ≡ bytes
+
+found_kinds : (p : ℕ) (e : Evidence) (s : Bool) (f : Finding) (now : Bool) → FoundKinds (record_by p e s f now) (total_bytes e.bank e.public e.quote e.list)
+found_kinds p e s (finding.Verdict v) now = record { close = refl; add = refl; remove = refl; release = refl; weight = refl }
+found_kinds p e s finding.Restart now = record { close = refl; add = refl; remove = refl; release = refl; weight = refl }
+
+-- what was accepted when the poll of a ticket began
+pub was_of : (H : History) (past : Past) (t : TicketFields) (k : Opening) → (opening : IsOpening H past t.poll k) → k.agent ≡ t.agent
+    → WasAccepted t.poll (own past t.agent) opening.accepted.0 opening.accepted.1
+was_of H past t k opening same = subst (λ (a : List ℕ). WasAccepted t.poll (own past a) opening.accepted.0 opening.accepted.1) same opening.accepted.2
+
+pub book_found : (H : History) (past : Past) (agents agents' : BTreeMap (List ℕ) Entry) (openings openings' : BTreeMap ℕ Opening) (drawn begun weighs capacity : ℕ)
+    (t : TicketFields) (e : Evidence) (s : Bool) (f : Finding) (next : Option Kept) (o : Opening) (entry : Option Entry)
+    → IsBook H past agents openings drawn begun weighs capacity → IsGiven past t → IsOpening H past t.poll o → o.agent ≡ t.agent → IsAppraisal t e s f next
+    → total_bytes e.bank e.public e.quote e.list ≤ 16777216
+    → is_some entry ≡ is_current (own past t.agent) t.generation → IsCurrentEntry H past t entry
+    → NotedIf agents agents' t.agent (option_map (found t.poll f (from_of next)) entry) → btree_map_len agents' ≡ btree_map_len agents
+    → Updates nat_cmp openings openings' t.poll None → btree_map_len openings' + 1 ≡ btree_map_len openings
+    → IsBook (H ++ record_by t.poll e s f (is_some entry) ∷ []) (record_by t.poll e s f (is_some entry) ∷ past) agents' openings' drawn begun
+    (weighs + total_bytes e.bank e.public e.quote e.list) capacity
+book_found H past agents agents' openings openings' drawn begun weighs capacity t e s f next o entry book given opening whose appraised light current known noted len up less =
+    let was = was_of H past t o opening whose in
+    let kinds = found_kinds t.poll e s f (is_some entry) in
+    subst (λ (n : ℕ). IsBook (H ++ record_by t.poll e s f (is_some entry) ∷ []) (record_by t.poll e s f (is_some entry) ∷ past) agents' openings' drawn begun (weighs + n) capacity) kinds.weight
+    (book_closed H past (record_by t.poll e s f (is_some entry)) agents agents' openings openings' drawn begun weighs capacity t.poll book (found_quiet past t.poll e s f (is_some entry))
+    (row_found past t e s f next (is_some entry) opening.accepted.0 opening.accepted.1 given opening.unclosed was appraised current)
+    (found_begins t.poll e s f (is_some entry)) (found_closes t.poll e s f (is_some entry)) kinds.close kinds.add kinds.remove kinds.release (omega (arith, kinds.weight, light))
+    (agents_found H past agents agents' t e s f next opening.accepted.0 opening.accepted.1 entry book.agents_are given was appraised known noted)
+    len up less)
+
+-- ---- a poll is dropped
+pub agents_dropped : (H : History) (past : Past) (agents : BTreeMap (List ℕ) Entry) (p : ℕ) (w : DropWhy) → ((a : List ℕ) → HasEntry H past a (get (slice_cmp nat_cmp) agents a))
+    → (b : List ℕ) → HasEntry (H ++ Dropped p w ∷ []) (Dropped p w ∷ past) b (get (slice_cmp nat_cmp) agents b)
+agents_dropped H past agents p w are b =
+    has_same H past (Dropped p w) b (get (slice_cmp nat_cmp) agents b) (quiet_dropped past p w).calm (λ q started is agent. refl) (λ own_past. refl)
+    (λ own_past terms entry says. says_dropped own_past p w terms entry says) (are b)
+
+pub book_dropped : (H : History) (past : Past) (agents : BTreeMap (List ℕ) Entry) (openings openings' : BTreeMap ℕ Opening) (drawn begun weighs capacity p : ℕ) (w : DropWhy)
+    → IsBook H past agents openings drawn begun weighs capacity → is_open past p ≡ true
+    → Updates nat_cmp openings openings' p None → btree_map_len openings' + 1 ≡ btree_map_len openings
+    → IsBook (H ++ Dropped p w ∷ []) (Dropped p w ∷ past) agents openings' drawn begun weighs capacity
+book_dropped H past agents openings openings' drawn begun weighs capacity p w book opened up less =
+    let none : weighs + 0 ≡ weighs = omega arith in
+    subst (λ (n : ℕ). IsBook (H ++ Dropped p w ∷ []) (Dropped p w ∷ past) agents openings' drawn begun n capacity) none
+    (book_closed H past (Dropped p w) agents agents openings openings' drawn begun weighs capacity p book (quiet_dropped past p w) opened
+    (λ q. refl) (λ q. refl) refl refl refl refl (omega arith) (agents_dropped H past agents p w book.agents_are) refl up less)
+
+-- ---- what is looked up
+pub known_of : (H : History) (past : Past) (t : TicketFields) (entry : Option Entry) → IfSome entry (λ e. IsEntry H past t.agent e) → IfSome entry (λ e. e.end ≡ None) → IsCurrentEntry H past t entry
+known_of H past t None is live = tt
+known_of H past t (Some e) is live = (is, live)
+
+pub opening_of : (H : History) (past : Past) (p : ℕ) (o : Option Opening) → HasOpening H past p o → is_open past p ≡ true → (k : Opening) × IsOpening H past p k × (o ≡ Some k)
+opening_of H past p None has opened = absurd (both_ways (is_open past p) has opened)
+opening_of H past p (Some k) has opened = (k, has, refl)
+
+pub whose : (H : History) (past : Past) (t : TicketFields) (k : Opening) → IsOpening H past t.poll k → IsGiven past t → k.agent ≡ t.agent
+whose H past t k opening given = ap (λ (s : Start). s.agent) (same_Some _ _ (sym opening.given.began ∙ given.began))
+
+-- an agent whose entry changes is kept
+pub note_where : (H : History) (past : Past) (agents : BTreeMap (List ℕ) Entry) (t : TicketFields) (entry : Option Entry) (p : ℕ) (f : Finding) (n : ℕ)
+    → ((a : List ℕ) → HasEntry H past a (get (slice_cmp nat_cmp) agents a)) → IsCurrentEntry H past t entry
+    → IfSome (option_map (found p f n) entry) (λ _. IsSome (get (slice_cmp nat_cmp) agents t.agent))
+note_where H past agents t None p f n are known = tt
+note_where H past agents t (Some e) p f n are known =
+    kept_installed H past t.agent (get (slice_cmp nat_cmp) agents t.agent) (are t.agent) ∙ ap is_some known.0.says.terms_are

@@ -1,0 +1,10 @@
+pub mod Texts
+pub mod OneMore
+pub mod Ours
+pub mod Standing
+pub mod Keeping
+pub mod Growing
+pub mod Findings
+pub mod Ending
+pub mod Telling
+pub mod Givens

@@ -1,0 +1,262 @@
+-- Which agent a record belongs to, and what one record more does to what an agent's own records say.
+use Rattle.std.proofs.Common.{◌≡◌, ℕ, Bool, true, false, cond, ◌||◌, List, [], ◌∷◌, Some, None, refl, ap, sym, ◌∙◌, subst}
+use Rattle.std.specs.Prelude.{is_some}
+use Rattle.std.proofs.lemmas.Bool.{cond-false, cond-true, eq-eqb, or_parts}
+use lib.Dec.{eqb}
+use Rattle.kl_entry.specs.Entries.{EntryFields}
+use Rattle.kl_states.specs.declared.op.Op.TheVariants.{TenantFailed, InvalidQuote, Failed as StateFailed}
+use Rattle.kl_states.specs.declared.verdict.Verdict.TheVariants.{Pass, Failed, Invalid}
+use Rattle.kl_quote.specs.declared.evidence.Evidence.{Evidence}
+use Rattle.kl_appraise.specs.declared.judged.Boot.{Boot}
+use Rattle.kl_appraise.specs.Terms.{TermsFields}
+use Rattle.kl_appraise.specs.declared.judged.Outcome.TheVariants as finding
+use Rattle.kl_history.specs.declared.record.Record.{Record}
+use Rattle.kl_history.specs.declared.record.Record.TheVariants.{Install, Begin, Verdict, Restart, Lost, Dropped, Release, Settled, Stop, Remove}
+use Rattle.kl_history.specs.declared.record.InstallWhy.{InstallWhy}
+use Rattle.kl_history.specs.Records.{Past, begins, belongs, own}
+use Rattle.kl_history.specs.LookBacks.{came, losses, missed}
+use Rattle.kl_history.specs.Accepted.{no_boot, HasAccepted, IsAccepted, WasAccepted}
+use Rattle.kl_history.specs.States.{ended, is_stop, is_invalid, is_failed, HasReached}
+use Rattle.kl_core.specs.declared.entry.Entry.{Entry}
+use Rattle.kl_core.specs.Inner.Keeping.{Says}
+use Rattle.kl_core.specs.States.{Accepted}
+use Rattle.kl_core.specs.Inner.Steps.{fresh, stopped, polled, found}
+
+-- ---- whose a record is
+pub own_theirs : (past : Past) (r : Record) (a : List ℕ) → belongs past a r ≡ false → own (r ∷ past) a ≡ own past a
+own_theirs past r a is = cond-false (belongs past a r) _ _ is
+
+pub own_ours : (past : Past) (r : Record) (a : List ℕ) → belongs past a r ≡ true → own (r ∷ past) a ≡ r ∷ own past a
+own_ours past r a is = cond-true (belongs past a r) _ _ is
+
+-- ---- what was accepted when a poll began stays
+was_stays : (r : Record) (past : Past) (p : ℕ) (entries : List EntryFields) (boot : Boot) → begins p r ≡ false → WasAccepted p past entries boot → WasAccepted p (r ∷ past) entries boot
+unfolding HasAccepted
+was_stays (Install a g t w) past p entries boot apart was = was
+was_stays (Begin q a g n at from) past p entries boot apart was = rw apart was
+was_stays (Verdict q e s v c) past p entries boot apart was = was
+was_stays (Restart q e s c) past p entries boot apart was = was
+was_stays (Lost q w c) past p entries boot apart was = was
+was_stays (Dropped q w) past p entries boot apart was = was
+was_stays (Release n a g q) past p entries boot apart was = was
+was_stays (Settled n o c) past p entries boot apart was = was
+was_stays (Stop a) past p entries boot apart was = was
+was_stays (Remove a) past p entries boot apart was = was
+
+pub was_own : (past : Past) (r : Record) (a : List ℕ) (p : ℕ) (entries : List EntryFields) (boot : Boot) → begins p r ≡ false
+    → WasAccepted p (own past a) entries boot → WasAccepted p (own (r ∷ past) a) entries boot
+was_own past r a p entries boot apart was = by_belonging (belongs past a r) refl where
+  by_belonging : (b : Bool) → belongs past a r ≡ b → WasAccepted p (own (r ∷ past) a) entries boot
+  by_belonging true is = subst (λ (o : Past). WasAccepted p o entries boot) (sym (own_ours past r a is)) (was_stays r (own past a) p entries boot apart was)
+  by_belonging false is = subst (λ (o : Past). WasAccepted p o entries boot) (sym (own_theirs past r a is)) was
+
+-- what is accepted when a poll begins
+pub was_now : (past : Past) (p : ℕ) (a : List ℕ) (g : ℕ) (n : List ℕ) (at from : ℕ) (entries : List EntryFields) (boot : Boot)
+    → IsAccepted past entries boot → WasAccepted p (Begin p a g n at from ∷ past) entries boot
+unfolding HasAccepted
+was_now past p a g n at from entries boot is = rw (eq-eqb p p refl) is
+
+-- ---- what an agent's own records say after one record more
+pub says_fresh : (past : Past) (a : List ℕ) (g : ℕ) (t : TermsFields) (w : InstallWhy) (place : ℕ) → ((boot : Boot) → ¬ (HasReached (Install a g t w ∷ past) boot))
+    → Says (Install a g t w ∷ past) t (fresh g place (is_some t.v))
+unfolding HasAccepted
+says_fresh past a g t w place unreached = record {
+  terms_are = refl;
+  v_is = refl;
+  end_is = refl;
+  losses_are = refl;
+  none_missed = refl;
+  none_reached = unreached;
+  pass_is = refl;
+  accepted = ([], no_boot, (refl, refl), refl);
+  polled = refl;
+}
+
+pub says_stopped : (past : Past) (a : List ℕ) (t : TermsFields) (e : Entry) → Says past t e → Says (Stop a ∷ past) t (stopped e)
+unfolding HasAccepted
+says_stopped past a t e says = record {
+  terms_are = says.terms_are;
+  v_is = says.v_is;
+  end_is = refl;
+  losses_are = says.losses_are;
+  none_missed = says.none_missed;
+  none_reached = says.none_reached;
+  pass_is = says.pass_is;
+  accepted = says.accepted;
+  polled = says.polled;
+}
+
+pub says_polled : (past : Past) (p : ℕ) (a : List ℕ) (g : ℕ) (n : List ℕ) (at from : ℕ) (t : TermsFields) (e : Entry) → Says past t e → Says (Begin p a g n at from ∷ past) t (polled p e)
+unfolding HasAccepted
+says_polled past p a g n at from t e says = record {
+  terms_are = says.terms_are;
+  v_is = says.v_is;
+  end_is = says.end_is;
+  losses_are = says.losses_are;
+  none_missed = says.none_missed;
+  none_reached = says.none_reached;
+  pass_is = says.pass_is;
+  accepted = says.accepted;
+  polled = refl;
+}
+
+pub says_dropped : (past : Past) (p : ℕ) (w : _) (t : TermsFields) (e : Entry) → Says past t e → Says (Dropped p w ∷ past) t e
+unfolding HasAccepted
+says_dropped past p w t e says = record {
+  terms_are = says.terms_are;
+  v_is = says.v_is;
+  end_is = says.end_is;
+  losses_are = says.losses_are;
+  none_missed = says.none_missed;
+  none_reached = says.none_reached;
+  pass_is = says.pass_is;
+  accepted = says.accepted;
+  polled = says.polled;
+}
+
+-- ---- a finding
+none_of : (a b f : Bool) → cond a (Some TenantFailed) (cond b (Some InvalidQuote) (cond f (Some StateFailed) None)) ≡ None → (a ≡ false) × (b ≡ false) × (f ≡ false)
+none_of true b f is = cc
+none_of false true f is = cc
+none_of false false true is = cc
+none_of false false false is = (refl, refl, refl)
+
+still_none : (a b f : Bool) → a ≡ false → b ≡ false → f ≡ false → cond a (Some TenantFailed) (cond b (Some InvalidQuote) (cond f (Some StateFailed) None)) ≡ None
+still_none a b f no_a no_b no_f = cond-false a _ _ no_a ∙ cond-false b _ _ no_b ∙ cond-false f _ _ no_f
+
+now_failed : (a b : Bool) → a ≡ false → b ≡ false → cond a (Some TenantFailed) (cond b (Some InvalidQuote) (Some StateFailed)) ≡ Some StateFailed
+now_failed a b no_a no_b = cond-false a _ _ no_a ∙ cond-false b _ _ no_b
+
+-- what has not come of a live agent
+record Going (past : Past) : Type 0 where
+  pub stop : came is_stop past ≡ false
+  pub invalid : came is_invalid past ≡ false
+  pub failed : came is_failed past ≡ false
+  pub missing : eqb (missed past) 5 ≡ false
+
+going : (past : Past) → ended past ≡ None → Going past
+going past live =
+    let parts = none_of (came is_stop past) (came is_invalid past) (came is_failed past || (eqb (losses past) 5 || eqb (missed past) 5)) live in
+    let failing = or_parts (came is_failed past) (eqb (losses past) 5 || eqb (missed past) 5) parts.2 in
+    record { stop = parts.0; invalid = parts.1; failed = failing.0; missing = (or_parts (eqb (losses past) 5) (eqb (missed past) 5) failing.1).1 }
+
+or_none : (a b : Bool) → a ≡ false → b ≡ false → (a || b) ≡ false
+or_none a b no_a no_b = ap (λ x. x || b) no_a ∙ no_b
+
+pub says_passed : (past : Past) (p : ℕ) (e : Evidence) (s : Bool) (cut : ℕ) (t : TermsFields) (n : ℕ) (entry : Entry) → Says past t entry → ended past ≡ None
+    → Accepted (Verdict p e s (Pass cut) true ∷ past) n → Says (Verdict p e s (Pass cut) true ∷ past) t (found p (finding.Verdict (Pass cut)) n entry)
+says_passed past p e s cut t n entry says live accepted =
+    let g = going past live in
+    record {
+      terms_are = says.terms_are;
+      v_is = says.v_is;
+      end_is = still_none _ _ (came is_failed past || eqb (missed past) 5) g.stop g.invalid (or_none _ _ g.failed g.missing) ∙ sym live ∙ says.end_is;
+      losses_are = refl;
+      none_missed = says.none_missed;
+      none_reached = says.none_reached;
+      pass_is = refl;
+      accepted = accepted;
+      polled = says.polled;
+    }
+
+pub says_failed : (past : Past) (p : ℕ) (e : Evidence) (s : Bool) (why : _) (t : TermsFields) (n : ℕ) (entry : Entry) → Says past t entry → ended past ≡ None
+    → Says (Verdict p e s (Failed why) true ∷ past) t (found p (finding.Verdict (Failed why)) n entry)
+unfolding HasAccepted
+says_failed past p e s why t n entry says live =
+    let g = going past live in
+    record {
+      terms_are = says.terms_are;
+      v_is = says.v_is;
+      end_is = now_failed _ _ g.stop g.invalid;
+      losses_are = refl;
+      none_missed = says.none_missed;
+      none_reached = says.none_reached;
+      pass_is = refl;
+      accepted = says.accepted;
+      polled = says.polled;
+    }
+
+pub says_invalid : (past : Past) (p : ℕ) (e : Evidence) (s : Bool) (why : _) (t : TermsFields) (n : ℕ) (entry : Entry) → Says past t entry → ended past ≡ None
+    → Says (Verdict p e s (Invalid why) true ∷ past) t (found p (finding.Verdict (Invalid why)) n entry)
+unfolding HasAccepted
+says_invalid past p e s why t n entry says live =
+    let g = going past live in
+    record {
+      terms_are = says.terms_are;
+      v_is = says.v_is;
+      end_is = cond-false (came is_stop past) _ _ g.stop;
+      losses_are = refl;
+      none_missed = says.none_missed;
+      none_reached = says.none_reached;
+      pass_is = refl;
+      accepted = says.accepted;
+      polled = says.polled;
+    }
+
+pub says_restarted : (past : Past) (p : ℕ) (e : Evidence) (s : Bool) (t : TermsFields) (n : ℕ) (entry : Entry) → Says past t entry → ended past ≡ None
+    → Says (Restart p e s true ∷ past) t (found p finding.Restart n entry)
+unfolding HasAccepted
+says_restarted past p e s t n entry says live =
+    let g = going past live in
+    record {
+      terms_are = says.terms_are;
+      v_is = says.v_is;
+      end_is = still_none _ _ (came is_failed past || eqb (missed past) 5) g.stop g.invalid (or_none _ _ g.failed g.missing) ∙ sym live ∙ says.end_is;
+      losses_are = refl;
+      none_missed = says.none_missed;
+      none_reached = says.none_reached;
+      pass_is = refl;
+      accepted = ([], no_boot, (refl, refl), refl);
+      polled = says.polled;
+    }
+
+-- a finding that is not current changes nothing
+pub says_stale_verdict : (past : Past) (p : ℕ) (e : Evidence) (s : Bool) (v : _) (t : TermsFields) (entry : Entry) → Says past t entry → Says (Verdict p e s v false ∷ past) t entry
+unfolding HasAccepted
+says_stale_verdict past p e s (Pass cut) t entry says = record {
+  terms_are = says.terms_are;
+  v_is = says.v_is;
+  end_is = says.end_is;
+  losses_are = says.losses_are;
+  none_missed = says.none_missed;
+  none_reached = says.none_reached;
+  pass_is = says.pass_is;
+  accepted = says.accepted;
+  polled = says.polled;
+}
+says_stale_verdict past p e s (Failed why) t entry says = record {
+  terms_are = says.terms_are;
+  v_is = says.v_is;
+  end_is = says.end_is;
+  losses_are = says.losses_are;
+  none_missed = says.none_missed;
+  none_reached = says.none_reached;
+  pass_is = says.pass_is;
+  accepted = says.accepted;
+  polled = says.polled;
+}
+says_stale_verdict past p e s (Invalid why) t entry says = record {
+  terms_are = says.terms_are;
+  v_is = says.v_is;
+  end_is = says.end_is;
+  losses_are = says.losses_are;
+  none_missed = says.none_missed;
+  none_reached = says.none_reached;
+  pass_is = says.pass_is;
+  accepted = says.accepted;
+  polled = says.polled;
+}
+
+pub says_stale_restart : (past : Past) (p : ℕ) (e : Evidence) (s : Bool) (t : TermsFields) (entry : Entry) → Says past t entry → Says (Restart p e s false ∷ past) t entry
+unfolding HasAccepted
+says_stale_restart past p e s t entry says = record {
+  terms_are = says.terms_are;
+  v_is = says.v_is;
+  end_is = says.end_is;
+  losses_are = says.losses_are;
+  none_missed = says.none_missed;
+  none_reached = says.none_reached;
+  pass_is = says.pass_is;
+  accepted = says.accepted;
+  polled = says.polled;
+}

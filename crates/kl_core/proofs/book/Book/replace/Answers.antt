@@ -1,0 +1,19 @@
+use Rattle.std.proofs.Common.{rules, arith}
+use Rattle.kl_history.specs.Records.{past_of}
+use Rattle.kl_core.proofs.Growing.{in_order, book_changed}
+use Rattle.kl_core.proofs.book.Book.replace.Goals as goal
+
+pub invariant_of-self-3 : goal.invariant_of-self-3
+invariant_of-self-3 c =
+    let b = c.self.inside in
+    rw (c.push_reserved.ensures.items, c.push_reserved.ensures.capacity, c.reserve.ensures.items, c.source.ensures)
+    (in_order b.records.items _ c.renew.new.agents b.polls _ b.begun _ _
+    (book_changed b.records.items (past_of b.records.items) b.agents c.renew.new.agents b.polls b.drawn b.begun b.weight _ _ c.args.agent.now c.in-Ok-changed_terms.terms c.args.policy c.in-Ok.entry
+    c.self.invariant
+    (rw c.self.view_is c.in-Ok.ensures.entry)
+    (rw (← c.reserve.ensures.items) c.in-Ok-changed_terms.ensures.ok)
+    (search rules)
+    c.renew.ensures.len
+    (rw c.self.view_is c.in-Ok.ensures.room)
+    (rw c.self.view_is c.in-Ok.ensures.bytes)
+    (omega (arith, c.in-Ok-reserve.ensures.ok))))

@@ -1,0 +1,3 @@
+-- What models and private contracts alone cite.
+pub mod Keeping
+pub mod Steps

@@ -1,0 +1,9 @@
+pub mod Desk
+pub mod Tickets
+pub mod Installs
+pub mod Endings
+pub mod Begins
+pub mod Closes
+pub mod States
+pub mod Whole
+pub mod Inner

@@ -1,0 +1,243 @@
+//! A history of its own, and what it says at each moment.
+
+mod closes;
+mod endings;
+mod installs;
+mod polls;
+
+ghost use Rattle.std.specs.Prelude.{◌≡◌, ◌↔◌, ◌≤◌, ◌+◌, [], ℕ, IsTrue, IfOk, IfErr, IfSome, Some, None, IsSome, is_some, length, slice_get};
+ghost use Rattle.std.specs.Option.{option_copied};
+ghost use Rattle.kl_history.specs.Records.{past_of, own, is_open};
+ghost use Rattle.kl_history.specs.LookBacks.{installed};
+ghost use Rattle.kl_history.specs.States.{is_current};
+ghost use Rattle.kl_history.specs.Legal.{Legal, agents, HasRoom, HasBytes};
+ghost use Rattle.kl_core.specs.States.{StateAnswers};
+ghost use Rattle.kl_core.specs.Inner.Keeping.{IsEntry, HasEntry, HasOpening, terms_at};
+ghost use Rattle.kl_core.specs.Inner.Steps.{IsBarred, Lacks};
+
+use crate::entry::{Entry, Opening};
+use crate::refusal::Refusal;
+use kl_appraise::SharedTerms;
+use kl_history::Record;
+use kl_policy::Memory;
+use kl_states::{AgentId, State};
+use std::alloc::Global;
+use std::collections::BTreeMap;
+use std::marker::Model;
+
+/// The most records that a journal has, the end of each open poll among them.
+const MOST_RECORDS: usize = 1_000_000;
+
+/// The most bytes that a journal weighs, the evidence of each open poll among them.
+const MOST_BYTES: u64 = 1_073_741_824;
+
+/// The most bytes that the evidence of one poll has.
+const POLL_BYTES: u64 = 16_777_216;
+
+/// The most agents that are installed.
+const MOST_AGENTS: usize = 1_024;
+
+/// A history, and what it says at each moment. Contracts see it as its records.
+#[derive(Drop)]
+pub struct Book {
+    records: Vec<Record>,
+    agents: BTreeMap<AgentId, Entry>,
+    polls: BTreeMap<u64, Opening>,
+    drawn: u64,
+    begun: u64,
+    weight: u64,
+}
+
+impl Model for Book {
+    ghost use Rattle.std.specs.Prelude.{List, vec_capacity};
+    ghost use Rattle.std.specs.Coded.{codes};
+    ghost use Rattle.kl_policy.specs.Digests.{digest_map_code};
+    ghost use Rattle.kl_history.specs.declared.record.Record.{Record};
+    ghost use Rattle.kl_history.specs.Records.{past_of};
+    ghost use Rattle.kl_core.specs.Inner.Keeping.{IsBook};
+
+    ghost Value = { List Record };
+
+    ghost coded = { Prim.hlevel (codes, digest_map_code) };
+
+    ghost view = { λ b. b.records.items };
+
+    ghost invariant = { λ b. IsBook b.records.items (past_of b.records.items) b.agents b.polls b.drawn b.begun b.weight (vec_capacity b.records) };
+}
+
+impl Book {
+    /// An empty history.
+    ///
+    /// # Errors
+    /// `Memory` where memory runs out.
+    pub fn new(alloc: Global) -> Result<Book, Memory>
+        ensures { IfOk result (λ book. book ≡ []) }
+    {
+        Ok(Book {
+            records: Vec::new(alloc),
+            agents: BTreeMap::new(alloc),
+            polls: BTreeMap::new(alloc),
+            drawn: 0,
+            begun: 0,
+            weight: 0,
+        })
+    }
+
+    /// How many records it has.
+    pub fn len(&self) -> u64
+        ensures count { result ≡ length self.now }
+        ensures legal { Legal self.now }
+    {
+        self.records.len() as u64
+    }
+
+    /// The record at a place, from 0; None where the history is not that long.
+    pub fn record(&self, place: u64) -> Option<&Record>
+        ensures { option_copied result ≡ slice_get self.now place }
+    {
+        match usize::try_from(place) {
+            Ok(place) => self.records.get(place),
+            Err(_) => None,
+        }
+    }
+
+    /// How an agent stands, None where no such agent is installed.
+    pub fn state(&self, agent: &AgentId) -> Option<State>
+        ensures { StateAnswers agent.now result (past_of self.now) }
+    {
+        match self.agents.get(agent) {
+            Some(entry) => Some(State {
+                op: entry.op(),
+                generation: entry.generation,
+                accepted: entry.accepted,
+            }),
+            None => None,
+        }
+    }
+
+    /// Whether an agent is installed.
+    fn has(&self, agent: &AgentId) -> bool
+        ensures { result ≡ is_some (installed (own (past_of self.now) agent.now)) }
+    {
+        self.agents.contains_key(agent)
+    }
+
+    /// What is kept of an agent, None where it is not installed.
+    fn entry(&self, agent: &AgentId) -> Option<Entry>
+        ensures { HasEntry self.now (past_of self.now) agent.now result }
+    {
+        match self.agents.get(agent) {
+            Some(entry) => Some(*entry),
+            None => None,
+        }
+    }
+
+    /// What is kept of a live agent.
+    fn live_entry(&self, agent: &AgentId) -> Result<Entry, Refusal>
+        ensures entry { IfOk result (λ e. IsEntry self.now (past_of self.now) agent.now e) }
+        ensures live { IfOk result (λ e. e.end ≡ None) }
+        ensures barred { IfErr result (λ why. IsBarred (past_of self.now) agent.now why) }
+    {
+        match self.entry(agent) {
+            Some(entry) => match entry.end {
+                Some(op) => Err(Refusal::WrongState(op)),
+                None => Ok(entry),
+            },
+            None => Err(Refusal::NoAgent),
+        }
+    }
+
+    /// What is kept of an agent that is live and installed with this generation.
+    fn current_entry(&self, agent: &AgentId, generation: u64) -> Option<Entry>
+        ensures current { is_some result ≡ is_current (own (past_of self.now) agent.now) generation }
+        ensures entry { IfSome result (λ e. IsEntry self.now (past_of self.now) agent.now e) }
+        ensures live { IfSome result (λ e. e.end ≡ None) }
+        ensures same { IfSome result (λ e. e.generation ≡ generation) }
+    {
+        match self.entry(agent) {
+            Some(entry) => if entry.generation == generation && entry.end.is_none() {
+                Some(entry)
+            } else {
+                None
+            },
+            None => None,
+        }
+    }
+
+    /// What is kept of an open poll, None where it is not open.
+    fn opening(&self, poll: u64) -> Option<Opening>
+        ensures { HasOpening self.now (past_of self.now) poll result }
+    {
+        match self.polls.get(&poll) {
+            Some(opening) => Some(*opening),
+            None => None,
+        }
+    }
+
+    /// Whether a poll is open.
+    fn is_open(&self, poll: u64) -> bool
+        ensures { result ≡ is_open (past_of self.now) poll }
+    {
+        self.opening(poll).is_some()
+    }
+
+    /// The terms that the record at a place installed.
+    fn terms_at(&self, place: usize) -> &SharedTerms
+        requires { IsSome (terms_at self.now place) }
+        ensures { terms_at self.now place ≡ Some result.now }
+    {
+        match self.records.get(place) {
+            Some(Record::Install { terms, .. }) => terms,
+            _ => unreachable!(),
+        }
+    }
+
+    /// The terms that the record at a place installed, held once more.
+    fn share_terms(&self, place: usize) -> Result<SharedTerms, Refusal>
+        requires { IsSome (terms_at self.now place) }
+        ensures ok { IfOk result (λ terms. terms_at self.now place ≡ Some terms) }
+        ensures err { IfErr result (λ why. why ≡ Refusal.Memory) }
+    {
+        match self.terms_at(place).share() {
+            Ok(terms) => Ok(terms),
+            Err(_) => Err(Refusal::Memory),
+        }
+    }
+
+    /// How many agents are installed.
+    fn agents_len(&self) -> usize
+        ensures { result ≡ agents (past_of self.now) }
+    {
+        self.agents.len()
+    }
+
+    /// Whether the journal has room for so many records more.
+    fn has_room(&self, records: usize) -> bool
+        requires { records ≤ 2 }
+        ensures { IsTrue result ↔ HasRoom (past_of self.now) records }
+    {
+        self.records.len() + self.polls.len() + records <= MOST_RECORDS
+    }
+
+    /// Whether the journal has room for so many bytes more.
+    fn has_bytes(&self, bytes: u64) -> bool
+        ensures { IsTrue result ↔ HasBytes (past_of self.now) bytes }
+    {
+        bytes <= MOST_BYTES
+            && self.weight + POLL_BYTES * self.polls.len() as u64 + bytes <= MOST_BYTES
+    }
+
+    /// Why the journal has no room for so many records and bytes more, None where it has.
+    fn lacks(&self, records: usize, bytes: u64) -> Option<Refusal>
+        requires { records ≤ 2 }
+        ensures { Lacks (past_of self.now) records bytes result }
+    {
+        if !self.has_room(records) {
+            Some(Refusal::JournalRecords)
+        } else if !self.has_bytes(bytes) {
+            Some(Refusal::JournalBytes)
+        } else {
+            None
+        }
+    }
+}

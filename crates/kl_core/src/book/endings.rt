@@ -1,0 +1,57 @@
+//! Agents are stopped and removed.
+
+ghost use Rattle.std.specs.Prelude.{◌≡◌, ◌++◌};
+ghost use Rattle.kl_history.specs.Records.{past_of};
+ghost use Rattle.kl_core.specs.Endings.{Stops, stop_makes, Removes, remove_makes};
+
+use super::Book;
+use crate::agents::{note, take_out};
+use crate::refusal::Refusal;
+use kl_history::Record;
+use kl_states::AgentId;
+
+impl Book {
+    /// Stops an agent.
+    ///
+    /// # Errors
+    /// `NoAgent`, `WrongState` where it is not live, `JournalRecords` or `Memory`.
+    pub fn stop(&mut self, agent: &AgentId) -> Result<(), Refusal>
+        ensures answer { Stops agent.now result (past_of self.old) }
+        ensures history { self.new ≡ self.old ++ stop_makes agent.now result (past_of self.old) }
+    {
+        let entry = self.live_entry(agent)?;
+        if !self.has_room(1) {
+            return Err(Refusal::JournalRecords);
+        }
+        match self.records.reserve(self.polls.len() + 1) {
+            Ok(()) => {},
+            Err(_) => return Err(Refusal::Memory),
+        }
+        note(&mut self.agents, agent, entry.stopped());
+        self.records.push_reserved(Record::Stop { agent: *agent });
+        Ok(())
+    }
+
+    /// Removes an agent. Its open polls stay open.
+    ///
+    /// # Errors
+    /// `NoAgent`, `JournalRecords` or `Memory`.
+    pub fn remove(&mut self, agent: &AgentId) -> Result<(), Refusal>
+        ensures answer { Removes agent.now result (past_of self.old) }
+        ensures history { self.new ≡ self.old ++ remove_makes agent.now result (past_of self.old) }
+    {
+        if !self.has(agent) {
+            return Err(Refusal::NoAgent);
+        }
+        if !self.has_room(1) {
+            return Err(Refusal::JournalRecords);
+        }
+        match self.records.reserve(self.polls.len() + 1) {
+            Ok(()) => {},
+            Err(_) => return Err(Refusal::Memory),
+        }
+        take_out(&mut self.agents, agent);
+        self.records.push_reserved(Record::Remove { agent: *agent });
+        Ok(())
+    }
+}

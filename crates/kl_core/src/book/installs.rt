@@ -1,0 +1,200 @@
+//! Agents are installed.
+
+ghost use Rattle.std.specs.Prelude.{◌≡◌, ◌++◌, IfOk, IfErr, IfSome, IfNone, IsSome, Some, length};
+ghost use Rattle.std.specs.Option.{option_map};
+ghost use Rattle.kl_history.specs.declared.record.InstallWhy.TheVariants.{Add};
+ghost use Rattle.kl_history.specs.Records.{past_of};
+ghost use Rattle.kl_history.specs.Legal.{MayInstall, HasRoom, HasBytes};
+ghost use Rattle.kl_core.specs.Installs.{RefusesAdd, Adds, add_makes, RefusesReactivate, Reactivates, reactivate_makes, with_policy, RefusesReplace, Replaces, replace_makes};
+ghost use Rattle.kl_core.specs.Inner.Keeping.{IsEntry, terms_at};
+
+use super::{Book, MOST_AGENTS};
+use crate::agents::{put_fresh, renew, take_out};
+use crate::entry::Entry;
+use crate::refusal::Refusal;
+use kl_appraise::{SharedTerms, Terms};
+use kl_history::{InstallWhy, Record};
+use kl_policy::Policy;
+use kl_states::AgentId;
+use std::alloc::Global;
+
+impl Book {
+    /// Why an agent can't be added, None where it can.
+    fn bars_add(&self, agent: &AgentId, terms: &Terms) -> Option<Refusal>
+        ensures some { IfSome result (λ why. RefusesAdd (past_of self.now) agent.now terms.now why) }
+        ensures may { IfNone result (MayInstall (past_of self.now) agent.now terms.now Add) }
+        ensures room { IfNone result (HasRoom (past_of self.now) 1) }
+        ensures bytes { IfNone result (HasBytes (past_of self.now) (length terms.now.policy.source)) }
+    {
+        if self.has(agent) {
+            return Some(Refusal::Exists);
+        }
+        if self.agents_len() >= MOST_AGENTS {
+            return Some(Refusal::AgentsFull);
+        }
+        self.lacks(1, terms.policy().source().len() as u64)
+    }
+
+    /// Installs an agent, and answers its generation.
+    ///
+    /// # Errors
+    /// `Exists`, `AgentsFull`, `JournalRecords`, `JournalBytes` or `Memory`, with the terms.
+    pub fn add(
+        &mut self,
+        alloc: Global,
+        agent: AgentId,
+        terms: Terms,
+    ) -> Result<u64, (Refusal, Terms)>
+        ensures answer { Adds agent terms result (past_of self.old) }
+        ensures history { self.new ≡ self.old ++ add_makes agent terms result (past_of self.old) }
+    {
+        match self.bars_add(&agent, &terms) {
+            Some(why) => return Err((why, terms)),
+            None => {},
+        }
+        match self.records.reserve(self.polls.len() + 1) {
+            Ok(()) => {},
+            Err(_) => return Err((Refusal::Memory, terms)),
+        }
+        let generation = self.drawn + 1;
+        let weight = terms.policy().source().len() as u64;
+        let (place, has_v) = (self.records.len(), terms.v().is_some());
+        match put_fresh(&mut self.agents, agent, generation, place, has_v) {
+            Ok(()) => {},
+            Err(_) => return Err((Refusal::Memory, terms)),
+        }
+        let terms = match SharedTerms::new(alloc, terms) {
+            Ok(terms) => terms,
+            Err(terms) => {
+                take_out(&mut self.agents, &agent);
+                return Err((Refusal::Memory, terms));
+            },
+        };
+        self.drawn = generation;
+        self.weight += weight;
+        self.records.push_reserved(Record::Install {
+            agent,
+            generation,
+            terms,
+            why: InstallWhy::Add,
+        });
+        Ok(generation)
+    }
+
+    /// What is kept of an agent that may be installed once more under the terms that it has.
+    fn may_reactivate(&self, agent: &AgentId) -> Result<Entry, Refusal>
+        ensures entry { IfOk result (λ e. IsEntry self.now (past_of self.now) agent.now e) }
+        ensures room { IfOk result (λ _. HasRoom (past_of self.now) 1) }
+        ensures err { IfErr result (λ why. RefusesReactivate (past_of self.now) agent.now why) }
+    {
+        match self.entry(agent) {
+            Some(entry) => if self.has_room(1) {
+                Ok(entry)
+            } else {
+                Err(Refusal::JournalRecords)
+            },
+            None => Err(Refusal::NoAgent),
+        }
+    }
+
+    /// Makes an agent live again under the terms that it has, and answers the generation.
+    ///
+    /// # Errors
+    /// `NoAgent`, `JournalRecords` or `Memory`.
+    pub fn reactivate(&mut self, agent: &AgentId) -> Result<u64, Refusal>
+        ensures answer { Reactivates agent.now result (past_of self.old) }
+        ensures history { self.new ≡ self.old ++ reactivate_makes agent.now result (past_of self.old) }
+    {
+        let entry = self.may_reactivate(agent)?;
+        let terms = self.share_terms(entry.place)?;
+        match self.records.reserve(self.polls.len() + 1) {
+            Ok(()) => {},
+            Err(_) => return Err(Refusal::Memory),
+        }
+        let generation = self.drawn + 1;
+        let place = self.records.len();
+        renew(&mut self.agents, agent, generation, place, entry.has_v);
+        self.drawn = generation;
+        self.records.push_reserved(Record::Install {
+            agent: *agent,
+            generation,
+            terms,
+            why: InstallWhy::Reactivate,
+        });
+        Ok(generation)
+    }
+
+    /// What is kept of an agent whose policy may be replaced.
+    fn may_replace(&self, agent: &AgentId, policy: &Policy) -> Result<Entry, Refusal>
+        ensures entry { IfOk result (λ e. IsEntry self.now (past_of self.now) agent.now e) }
+        ensures room { IfOk result (λ _. HasRoom (past_of self.now) 1) }
+        ensures bytes { IfOk result (λ _. HasBytes (past_of self.now) (length policy.now.source)) }
+        ensures err { IfErr result (λ why. RefusesReplace (past_of self.now) agent.now policy.now why) }
+    {
+        match self.entry(agent) {
+            Some(entry) => match self.lacks(1, policy.source().len() as u64) {
+                Some(why) => Err(why),
+                None => Ok(entry),
+            },
+            None => Err(Refusal::NoAgent),
+        }
+    }
+
+    /// The terms that the record at a place installed, with another policy.
+    fn changed_terms(
+        &self,
+        alloc: Global,
+        place: usize,
+        policy: Policy,
+    ) -> Result<SharedTerms, Policy>
+        requires { IsSome (terms_at self.now place) }
+        ensures ok { IfOk result (λ terms. option_map (with_policy policy) (terms_at self.now place) ≡ Some terms) }
+        ensures err { IfErr result (λ back. back ≡ policy) }
+    {
+        let terms = self.terms_at(place).terms().with_policy(alloc, policy)?;
+        match SharedTerms::new(alloc, terms) {
+            Ok(terms) => Ok(terms),
+            Err(terms) => Err(terms.into_policy()),
+        }
+    }
+
+    /// Installs an agent under a new runtime policy, and answers the generation. The other terms stay.
+    ///
+    /// # Errors
+    /// `NoAgent`, `JournalRecords`, `JournalBytes` or `Memory`, with the policy.
+    pub fn replace(
+        &mut self,
+        alloc: Global,
+        agent: &AgentId,
+        policy: Policy,
+    ) -> Result<u64, (Refusal, Policy)>
+        ensures answer { Replaces agent.now policy result (past_of self.old) }
+        ensures history { self.new ≡ self.old ++ replace_makes agent.now policy result (past_of self.old) }
+    {
+        let entry = match self.may_replace(agent, &policy) {
+            Ok(entry) => entry,
+            Err(why) => return Err((why, policy)),
+        };
+        match self.records.reserve(self.polls.len() + 1) {
+            Ok(()) => {},
+            Err(_) => return Err((Refusal::Memory, policy)),
+        }
+        let weight = policy.source().len() as u64;
+        let terms = match self.changed_terms(alloc, entry.place, policy) {
+            Ok(terms) => terms,
+            Err(policy) => return Err((Refusal::Memory, policy)),
+        };
+        let generation = self.drawn + 1;
+        let place = self.records.len();
+        renew(&mut self.agents, agent, generation, place, entry.has_v);
+        self.drawn = generation;
+        self.weight += weight;
+        self.records.push_reserved(Record::Install {
+            agent: *agent,
+            generation,
+            terms,
+            why: InstallWhy::Replace,
+        });
+        Ok(generation)
+    }
+}

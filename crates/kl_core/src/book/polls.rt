@@ -1,0 +1,89 @@
+//! Polls begin and are closed.
+
+ghost use Rattle.std.specs.Prelude.{◌≡◌, ◌++◌, ℕ, true, false, IfOk, IfErr, IfSome, IfNone, Some, None};
+ghost use Rattle.kl_history.specs.Records.{past_of, own, is_open};
+ghost use Rattle.kl_history.specs.Legal.{IsBusy, HasRoom, HasBytes};
+ghost use Rattle.kl_core.specs.Begins.{RefusesBegin, BeginAnswers, begin_makes};
+ghost use Rattle.kl_core.specs.Inner.Keeping.{IsEntry};
+
+use super::{Book, POLL_BYTES};
+use crate::agents::note;
+use crate::entry::{Entry, Opening};
+use crate::openings::put_opening;
+use crate::refusal::Refusal;
+use kl_history::Record;
+use kl_incr::Ticket;
+use kl_states::{AgentId, Nonce};
+
+impl Book {
+    /// The last poll of an agent, where it is open.
+    fn open_latest(&self, entry: &Entry) -> Option<u64>
+        ensures latest { IfSome result (λ p. entry.now.latest ≡ Some p) }
+        ensures opened { IfSome result (λ p. is_open (past_of self.now) p ≡ true) }
+        ensures none { IfNone result ((p : ℕ) → entry.now.latest ≡ Some p → is_open (past_of self.now) p ≡ false) }
+    {
+        match entry.latest {
+            Some(poll) => if self.is_open(poll) { Some(poll) } else { None },
+            None => None,
+        }
+    }
+
+    /// What is kept of an agent that may be polled.
+    fn may_begin(&self, agent: &AgentId) -> Result<Entry, Refusal>
+        ensures entry { IfOk result (λ e. IsEntry self.now (past_of self.now) agent.now e) }
+        ensures live { IfOk result (λ e. e.end ≡ None) }
+        ensures idle { IfOk result (λ e. (q : ℕ) → ¬ (IsBusy (past_of self.now) agent.now e.generation q)) }
+        ensures room { IfOk result (λ _. HasRoom (past_of self.now) 2) }
+        ensures bytes { IfOk result (λ _. HasBytes (past_of self.now) 16777216) }
+        ensures err { IfErr result (λ why. RefusesBegin (past_of self.now) agent.now why) }
+    {
+        let entry = self.live_entry(agent)?;
+        match self.open_latest(&entry) {
+            Some(poll) => return Err(Refusal::Busy(poll)),
+            None => {},
+        }
+        match self.lacks(2, POLL_BYTES) {
+            Some(why) => Err(why),
+            None => Ok(entry),
+        }
+    }
+
+    /// Begins a poll of an agent at a moment, in milliseconds.
+    ///
+    /// # Errors
+    /// `NoAgent`, `WrongState` where it is not live, `Busy` where a poll of its installed generation is open,
+    /// `JournalRecords`, `JournalBytes` or `Memory`.
+    pub fn begin(&mut self, agent: &AgentId, nonce: Nonce, now: u64) -> Result<Ticket, Refusal>
+        ensures answer { BeginAnswers agent.now nonce now result (past_of self.old) }
+        ensures history { self.new ≡ self.old ++ begin_makes now result (past_of self.old) }
+    {
+        let entry = self.may_begin(agent)?;
+        let terms = self.share_terms(entry.place)?;
+        match self.records.reserve(self.polls.len() + 2) {
+            Ok(()) => {},
+            Err(_) => return Err(Refusal::Memory),
+        }
+        let poll = self.begun + 1;
+        let opening = Opening {
+            agent: *agent,
+            generation: entry.generation,
+            nonce,
+            place: entry.place,
+        };
+        match put_opening(&mut self.polls, poll, opening) {
+            Ok(()) => {},
+            Err(_) => return Err(Refusal::Memory),
+        }
+        self.begun = poll;
+        note(&mut self.agents, agent, entry.polled(poll));
+        self.records.push_reserved(Record::Begin {
+            poll,
+            agent: *agent,
+            generation: entry.generation,
+            nonce,
+            at: now,
+            from: 0,
+        });
+        Ok(Ticket::new(poll, *agent, entry.generation, nonce, terms, None))
+    }
+}

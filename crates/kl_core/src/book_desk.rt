@@ -1,0 +1,99 @@
+//! A book is a desk that makes every record of its history.
+
+ghost use Rattle.kl_core.specs.Whole.{all_told};
+
+use crate::book::Book;
+use crate::closed::Closed;
+use crate::desk::Desk;
+use crate::refusal::Refusal;
+use kl_appraise::Terms;
+use kl_incr::{Appraised, Ticket};
+use kl_policy::Policy;
+use kl_states::{AgentId, DropWhy, Nonce, State};
+use std::alloc::Global;
+
+impl Desk for Book {
+    ghost told = { all_told };
+
+    fn add(
+        &mut self,
+        alloc: Global,
+        agent: AgentId,
+        terms: Terms,
+    ) -> Result<u64, (Refusal, Terms)> {
+        let answer = Book::add(self, alloc, agent, terms);
+        let _len = self.len();
+        answer
+    }
+
+    fn replace(
+        &mut self,
+        alloc: Global,
+        agent: &AgentId,
+        policy: Policy,
+    ) -> Result<u64, (Refusal, Policy)> {
+        let answer = Book::replace(self, alloc, agent, policy);
+        let _len = self.len();
+        answer
+    }
+
+    fn reactivate(&mut self, _alloc: Global, agent: &AgentId) -> Result<u64, Refusal> {
+        let answer = Book::reactivate(self, agent);
+        let _len = self.len();
+        answer
+    }
+
+    fn stop(&mut self, _alloc: Global, agent: &AgentId) -> Result<(), Refusal> {
+        let answer = Book::stop(self, agent);
+        let _len = self.len();
+        answer
+    }
+
+    fn remove(&mut self, _alloc: Global, agent: &AgentId) -> Result<(), Refusal> {
+        let answer = Book::remove(self, agent);
+        let _len = self.len();
+        answer
+    }
+
+    fn begin(
+        &mut self,
+        _alloc: Global,
+        agent: &AgentId,
+        nonce: Nonce,
+        now: u64,
+    ) -> Result<Ticket, Refusal> {
+        let answer = Book::begin(self, agent, nonce, now);
+        let _len = self.len();
+        answer
+    }
+
+    fn finish(&mut self, done: Appraised) -> Result<Closed, (Refusal, Appraised)> {
+        let answer = Book::finish(self, done);
+        let _len = self.len();
+        answer
+    }
+
+    fn drop_poll(&mut self, ticket: Ticket, why: DropWhy) -> Result<Closed, (Refusal, Ticket)> {
+        let answer = Book::drop_poll(self, ticket, why);
+        let _len = self.len();
+        answer
+    }
+
+    fn finish_own(&mut self, done: Appraised) -> Result<Closed, (Refusal, Appraised)> {
+        let answer = Book::finish_own(self, done);
+        let _len = self.len();
+        answer
+    }
+
+    fn drop_own(&mut self, ticket: Ticket, why: DropWhy) -> Result<Closed, (Refusal, Ticket)> {
+        let answer = Book::drop_own(self, ticket, why);
+        let _len = self.len();
+        answer
+    }
+
+    fn state(&mut self, agent: &AgentId) -> Option<State> {
+        let answer = Book::state(self, agent);
+        let _len = self.len();
+        answer
+    }
+}

@@ -1,0 +1,23 @@
+//! The core of a verifier: one history, and the calls that add to it.
+//!
+//! [`Desk`] is what agents are installed and polled at.
+#![tactic(auto)]
+
+mod agents;
+mod book;
+mod book_desk;
+mod closed;
+mod closing;
+mod desk;
+mod entry;
+mod openings;
+mod refusal;
+#[cfg(test)]
+mod tests;
+
+pub use book::Book;
+pub use closed::{Closed, ClosedAs};
+pub use desk::Desk;
+pub use kl_history::{InstallWhy, Record};
+pub use kl_incr::{Appraised, Kept, Outcome as Finding, Parts, Ticket};
+pub use refusal::Refusal;

@@ -1,0 +1,31 @@
+//! Why a desk did nothing.
+
+use kl_states::Op;
+
+/// Why a desk did nothing. The first that applies is answered, in the order in which the call lists them; want
+/// of memory may be answered before the others were looked at.
+#[derive(Clone, Copy, Debug, PartialEq, Eq)]
+pub enum Refusal {
+    /// No such agent is installed.
+    NoAgent,
+    /// The agent is installed already.
+    Exists,
+    /// 1,024 agents are installed.
+    AgentsFull,
+    /// The agent is in this state, in which the call is not lawful.
+    WrongState(Op),
+    /// This poll of the agent is open, and was begun under the installed generation.
+    Busy(u64),
+    /// The poll of this number is not open, or the ticket is not the one that its begin gave.
+    NoPoll(u64),
+    /// The release of this number is not open, or the share is not the one that it gave.
+    NoRelease(u64),
+    /// The journal has no room for a record more: it takes 1,000,000, the end of each open poll and release among
+    /// them.
+    JournalRecords,
+    /// The journal has no room for more bytes: it takes 1 GiB of evidence and policies, 16 MiB for each open poll
+    /// among them.
+    JournalBytes,
+    /// Memory ran out.
+    Memory,
+}

@@ -1,0 +1,235 @@
+//! What no clause says: that calls are done with ample memory, up to the limits of a book.
+
+use crate::*;
+use kl_appraise::{SharedTerms, Terms};
+use kl_bank::Bank;
+use kl_policy::{Policy, read_flat};
+use kl_states::{AgentId, DropWhy, Nonce, Op};
+use std::alloc::Global;
+use std::test::*;
+
+/// The number's agent: a letter and two digits.
+fn agent(number: u64) -> Result<AgentId, Fail> {
+    let hundreds = b'a' + (number / 100 % 26) as u8;
+    let name = [
+        hundreds,
+        b'0' + (number / 10 % 10) as u8,
+        b'0' + (number % 10) as u8,
+    ];
+    match AgentId::from_bytes(&name) {
+        Some(agent) => Ok(agent),
+        None => Err(Fail::from("a letter and two digits name an agent")),
+    }
+}
+
+fn nonce(text: &[u8]) -> Result<Nonce, Fail> {
+    match Nonce::from_bytes(text) {
+        Some(nonce) => Ok(nonce),
+        None => Err(Fail::from("letters and digits are a nonce")),
+    }
+}
+
+fn policy(alloc: Global, text: &str) -> Result<Policy, Fail> {
+    match read_flat(alloc, text) {
+        Ok(policy) => Ok(policy),
+        Err(_) => Err(Fail::from("the policy is flat")),
+    }
+}
+
+/// Terms of PCRs 10 and 16 with this policy.
+fn terms(alloc: Global, text: &str) -> Result<Terms, Fail> {
+    let contact = String::from_str(alloc, "127.0.0.1:9002")?;
+    match Terms::new(
+        contact,
+        Bank::Sha256,
+        0x10400,
+        Vec::new(alloc),
+        Vec::from_slice(alloc, b"k1")?,
+        None,
+        policy(alloc, text)?,
+    ) {
+        Ok(terms) => Ok(terms),
+        Err(_) => Err(Fail::from("the mask has PCRs 10 and 16")),
+    }
+}
+
+fn book(alloc: Global) -> Result<Book, Fail> {
+    match Book::new(alloc) {
+        Ok(book) => Ok(book),
+        Err(_) => Err(Fail::from("there is memory")),
+    }
+}
+
+/// The generation, or why the agent was not added.
+fn added(book: &mut Book, alloc: Global, number: u64) -> Result<Result<u64, Refusal>, Fail> {
+    let terms = terms(alloc, "")?;
+    Ok(match book.add(alloc, agent(number)?, terms) {
+        Ok(generation) => Ok(generation),
+        Err((why, _terms)) => Err(why),
+    })
+}
+
+/// The poll that began, or why none did; the ticket is let go.
+fn begun(book: &mut Book, number: u64) -> Result<Result<u64, Refusal>, Fail> {
+    Ok(match book.begin(&agent(number)?, nonce(b"n1")?, 0) {
+        Ok(ticket) => {
+            let poll = ticket.poll();
+            ticket.discard();
+            Ok(poll)
+        },
+        Err(why) => Err(why),
+    })
+}
+
+/// How a poll was dropped, or why it was not.
+fn dropped(book: &mut Book, ticket: Ticket) -> Result<Closed, Refusal> {
+    match book.drop_poll(ticket, DropWhy::Memory) {
+        Ok(closed) => Ok(closed),
+        Err((why, ticket)) => {
+            ticket.discard();
+            Err(why)
+        },
+    }
+}
+
+#[test]
+fn the_65th_poll_has_no_room_for_its_evidence(rt: HostRuntime) -> Result<(), Fail> {
+    let alloc = rt.alloc();
+    let mut book = book(alloc)?;
+    for number in 1..=65 {
+        let _generation = added(&mut book, alloc, number)?;
+        let wanted = if number < 65 {
+            Ok(number)
+        } else {
+            Err(Refusal::JournalBytes)
+        };
+        assert_eq!(rt; begun(&mut book, number)?, wanted);
+    }
+    Ok(())
+}
+
+#[test]
+fn the_1025th_agent_is_refused(rt: HostRuntime) -> Result<(), Fail> {
+    let alloc = rt.alloc();
+    let mut book = book(alloc)?;
+    for number in 1..=1_025 {
+        let wanted = if number < 1_025 {
+            Ok(number)
+        } else {
+            Err(Refusal::AgentsFull)
+        };
+        assert_eq!(rt; added(&mut book, alloc, number)?, wanted);
+    }
+    Ok(())
+}
+
+#[test]
+fn a_journal_takes_1000000_records(rt: HostRuntime) -> Result<(), Fail> {
+    let alloc = rt.alloc();
+    let mut book = book(alloc)?;
+    let _generation = added(&mut book, alloc, 1)?;
+    let agent = agent(1)?;
+    for _ in 0..999_998 {
+        let _generation = book.reactivate(&agent);
+    }
+    assert_eq!(rt; begun(&mut book, 1)?, Err(Refusal::JournalRecords));
+    assert_eq!(rt; book.reactivate(&agent), Ok(1_000_000));
+    assert_eq!(rt; book.reactivate(&agent), Err(Refusal::JournalRecords));
+    Ok(())
+}
+
+/// The ticket of agent 1's first poll, but for what this number changes: poll, agent, generation, nonce or terms.
+fn ticket(alloc: Global, changed: u8) -> Result<Ticket, Fail> {
+    let text = if changed == 5 {
+        "abababababababababababababababababababababababababababababababab  /usr/bin/sh\n"
+    } else {
+        ""
+    };
+    let terms = match SharedTerms::new(alloc, terms(alloc, text)?) {
+        Ok(terms) => terms,
+        Err(_) => return Err(Fail::from("there is memory")),
+    };
+    let poll = if changed == 1 { 2 } else { 1 };
+    let agent = agent(if changed == 2 { 2 } else { 1 })?;
+    let generation = if changed == 3 { 2 } else { 1 };
+    let nonce = nonce(if changed == 4 { b"n2" } else { b"n1" })?;
+    Ok(Ticket::new(poll, agent, generation, nonce, terms, None))
+}
+
+#[test]
+fn a_ticket_of_other_values_closes_nothing_and_its_own_closes_once(
+    rt: HostRuntime,
+) -> Result<(), Fail> {
+    let alloc = rt.alloc();
+    let mut book = book(alloc)?;
+    let _generation = added(&mut book, alloc, 1)?;
+    let _poll = begun(&mut book, 1)?;
+    let closed = Closed {
+        poll: 1,
+        agent: agent(1)?,
+        as_what: ClosedAs::Dropped(DropWhy::Memory),
+        current: true,
+        op: Some(Op::GetQuote),
+    };
+    for (changed, wanted, len) in [
+        (1, Err(Refusal::NoPoll(2)), 2),
+        (2, Err(Refusal::NoPoll(1)), 2),
+        (3, Err(Refusal::NoPoll(1)), 2),
+        (4, Err(Refusal::NoPoll(1)), 2),
+        (5, Err(Refusal::NoPoll(1)), 2),
+        (0, Ok(closed), 3),
+        (0, Err(Refusal::NoPoll(1)), 3),
+    ] {
+        let answer = dropped(&mut book, ticket(alloc, changed)?);
+        assert_eq!(rt; (answer, book.len()), (wanted, len));
+    }
+    Ok(())
+}
+
+/// The call of this number in the life of agent 1.
+fn live(book: &mut Book, alloc: Global, number: u8) -> Result<(), Fail> {
+    let agent = agent(1)?;
+    match number {
+        1 => {
+            let _poll = begun(book, 1)?;
+        },
+        2 => {
+            let _generation = book.reactivate(&agent);
+        },
+        3 => {
+            let _stopped = book.stop(&agent);
+        },
+        4 => {
+            let _generation = book.replace(alloc, &agent, policy(alloc, "")?);
+        },
+        5 => {
+            let _removed = book.remove(&agent);
+        },
+        _ => {
+            let _generation = added(book, alloc, 1)?;
+        },
+    }
+    Ok(())
+}
+
+#[test]
+fn an_agent_is_polled_stopped_replaced_and_removed(rt: HostRuntime) -> Result<(), Fail> {
+    let alloc = rt.alloc();
+    let mut book = book(alloc)?;
+    for (number, wanted) in [
+        (0, Some((Op::Start, 1))),
+        (1, Some((Op::GetQuote, 1))),
+        (2, Some((Op::Start, 2))),
+        (3, Some((Op::TenantFailed, 2))),
+        (4, Some((Op::Start, 3))),
+        (5, None),
+        (6, Some((Op::Start, 4))),
+    ] {
+        live(&mut book, alloc, number)?;
+        let state = book
+            .state(&agent(1)?)
+            .map(|state| (state.op, state.generation));
+        assert_eq!(rt; state, wanted);
+    }
+    Ok(())
+}

@@ -1,0 +1,14 @@
+pub mod Places
+pub mod Numbers
+pub mod Rows
+pub mod Drawn
+pub mod OwnRecords
+pub mod Appraised
+pub mod Released
+pub mod Standing
+pub mod Failing
+pub mod OneStanding
+pub mod Tallies
+pub mod Counts
+pub mod ShortHistories
+pub mod Examples

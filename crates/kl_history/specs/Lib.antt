@@ -1,0 +1,9 @@
+pub mod Records
+pub mod LookBacks
+pub mod Accepted
+pub mod States
+pub mod Releases
+pub mod Legal
+pub mod Notices
+pub mod Laws
+pub mod Worked

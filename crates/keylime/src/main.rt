@@ -1,39 +1,31 @@
 //! The program over the real standard streams: `keylime run < script`.
 #![tactic(auto)]
 
-ghost use Rattle.std.specs.Prelude.{◌≡◌, ◌≤◌};
+mod starting;
 
-use kl_console::run;
-use kl_io::{Sink, Source, StdSink, StdSource};
-use kl_keys::{Keys, MacKeys};
-use kl_pcr::Steps;
+use crate::starting::{NoWords, start};
+use kl_io::{StdSink, StdSource};
+use kl_keys::MacKeys;
 use std::alloc::Global;
 use std::marker::Brand;
 use std::process::ExitCode;
 use std::rt::Env;
-use std::sync::ledger::{Blank, Ledger};
+use std::sync::ledger::Blank;
 use std::{env, io};
 
-/// The status where the words are no command line, as where they are no text.
-const USAGE: u8 = 2;
-
-/// The status where memory ran out.
+/// The status where memory ran out before the program could start.
 const MEMORY: u8 = 70;
 
 fn main(rt: HostRuntime) -> ExitCode {
     let alloc = rt.alloc();
-    let words = match words_of(alloc, &rt) {
-        Ok(words) => words,
-        Err(error) => return ExitCode::from(status_of(&error)),
-    };
     let Ok(mut keys) = MacKeys::new(alloc, &[]) else {
         return ExitCode::from(MEMORY);
     };
     let mut script = StdSource::new(rt.stdin());
     let mut out = StdSink::new(rt.stdout());
-    let status = run_from::<_, _, _, Brand>(
+    let status = start::<_, _, _, Brand>(
         alloc,
-        &words,
+        words_of(alloc, &rt),
         &mut script,
         &mut out,
         &mut keys,
@@ -43,32 +35,15 @@ fn main(rt: HostRuntime) -> ExitCode {
 }
 
 /// The words of the command line behind the program's name.
-fn words_of<R: Env + AllocGlobal>(alloc: Global, rt: &R) -> io::Result<Vec<String>> {
-    let words = env::args(rt)?.skip(1).collect(alloc)?;
-    Ok(words)
-}
-
-/// The status of a command line that could not be had.
-fn status_of(error: &io::Error) -> u8 {
-    if error.kind() == io::ErrorKind::OutOfMemory {
-        MEMORY
-    } else {
-        USAGE
+fn words_of<R: Env + AllocGlobal>(alloc: Global, rt: &R) -> Result<Vec<String>, NoWords> {
+    match read_words(alloc, rt) {
+        Ok(words) => Ok(words),
+        Err(error) if error.kind() == io::ErrorKind::OutOfMemory => Err(NoWords::Memory),
+        Err(_) => Err(NoWords::NoText),
     }
 }
 
-/// Does what the words say, with a counter of steps of its own.
-fn run_from<S: Source, K: Sink, Y: Keys, L: Ledger>(
-    alloc: Global,
-    words: &[String],
-    script: &mut S,
-    out: &mut K,
-    keys: &mut Y,
-    blank: Blank,
-) -> u8
-    requires name { blank.name ≡ L.name }
-    requires parts { blank.parts ≡ L.parts }
-    requires some { 1 ≤ blank.parts }
-{
-    run(alloc, words, script, out, keys, &mut Steps::<L>::of(blank))
+fn read_words<R: Env + AllocGlobal>(alloc: Global, rt: &R) -> io::Result<Vec<String>> {
+    let words = env::args(rt)?.skip(1).collect(alloc)?;
+    Ok(words)
 }

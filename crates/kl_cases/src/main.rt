@@ -7,10 +7,9 @@
 ghost use Rattle.std.specs.Prelude.{◌≡◌, ◌≤◌};
 
 use anyhow::{Result, bail};
-use kl_console::run;
+use kl_console::run_counted;
 use kl_io::{MemSink, MemSource, Sink, Source};
 use kl_keys::{Keys, MacKeys};
-use kl_pcr::Steps;
 use std::alloc::{AllocError, Global};
 use std::io::{BufRead, BufReader};
 use std::marker::Brand;
@@ -90,7 +89,7 @@ fn play<R: Print + AllocGlobal>(rt: &R, case: Case) -> Result<()> {
     let mut script = MemSource::new(alloc, case.script.into_bytes(), &[])?;
     let mut out = MemSink::new(alloc, ROOM, &[])?;
     let words = vec![in alloc; String::from_str(alloc, "run")?]?;
-    let status = run_from::<_, _, _, Brand>(
+    let status = run_alone::<_, _, _, Brand>(
         alloc,
         &words,
         &mut script,
@@ -116,8 +115,8 @@ fn keys_of(alloc: Global, fault: Option<u64>) -> Result<MacKeys, kl_keys::Memory
     }
 }
 
-/// Runs a script, with a counter of steps of its own.
-fn run_from<S: Source, K: Sink, Y: Keys, L: Ledger>(
+/// Runs a script as `run_counted` does. It promises nothing, so that `play` carries no law of a run: its output is compared.
+fn run_alone<S: Source, K: Sink, Y: Keys, L: Ledger>(
     alloc: Global,
     words: &[String],
     script: &mut S,
@@ -129,5 +128,5 @@ fn run_from<S: Source, K: Sink, Y: Keys, L: Ledger>(
     requires parts { blank.parts ≡ L.parts }
     requires some { 1 ≤ blank.parts }
 {
-    run(alloc, words, script, out, keys, &mut Steps::<L>::of(blank))
+    run_counted::<_, _, _, L>(alloc, words, script, out, keys, blank)
 }

@@ -2,8 +2,9 @@ pub mod Lines
 pub mod Texts
 pub mod Terms
 pub mod Session
-pub mod Stages
 pub mod Script
+pub mod Calls
 pub mod Run
-pub mod Turns
-pub mod Faults
+pub mod Replies
+pub mod Unique
+pub mod Inner

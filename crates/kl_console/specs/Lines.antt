@@ -1,14 +1,6 @@
 -- Lines of a stream of bytes, each ended by a newline.
-use Rattle.std.specs.Prelude.{◌≡◌, ◌≢◌, ℕ, ◌+◌, ◌≤◌, ◌<◌, Bool, true, false, List, [], ◌∷◌, ◌++◌, length, take, drop, All, Option, Result, Ok, Err}
-use Rattle.std.specs.Io.KnownBytes.{Consumes, IsAtEnd}
-use Rattle.kl_console.specs.declared.line_reader.Found.{Found}
-use Rattle.kl_console.specs.declared.line_reader.Found.TheVariants.{Line, End, TooLong}
-use Rattle.kl_console.specs.declared.line_reader.ReadError.{ReadError}
-use Rattle.kl_console.specs.declared.line_reader.ReadError.TheVariants.{Failed, Memory}
-
--- no byte is a newline
-abbrev pub HasNoNewline : List ℕ → Type 0
-HasNoNewline bytes = All (λ b. b ≢ 10) bytes
+use Rattle.std.specs.Prelude.{ℕ, ◌≤◌, ◌<◌, List, [], ◌∷◌, ◌++◌, length}
+use Rattle.kl_entry.specs.Lines.{HasNo}
 
 -- the most bytes that a line may have, its newline not counted
 abbrev pub line_limit : ℕ
@@ -16,47 +8,13 @@ line_limit = 16777216
 
 -- a line, without its newline
 pub record IsLine (line : List ℕ) : Type 0 where
-  pub whole : HasNoNewline line
+  pub whole : HasNo 10 line
   pub short : length line ≤ line_limit
 
 -- bytes that begin a line which passes the limit
 pub record IsTooLong (bytes : List ℕ) : Type 0 where
-  pub whole : HasNoNewline bytes
+  pub whole : HasNo 10 bytes
   pub long : line_limit < length bytes
-
--- what a reader of lines holds: the line that it reads, and the bytes after it that the source has given already
-pub record Reading : Type 0 where
-  pub line : List ℕ
-  pub ahead : List ℕ
-
--- the bytes that it holds: a newline stands between them where the line is whole
-abbrev pub held_bytes : Bool → Reading → List ℕ
-held_bytes true r = r.line ++ 10 ∷ r.ahead
-held_bytes false r = r.line ++ r.ahead
-
--- where the first newline stands
-pub record IsNewlineAt (bytes : List ℕ) (at : ℕ) : Type 0 where
-  pub inside : at < length bytes
-  pub before : HasNoNewline (take at bytes)
-  pub parts : bytes ≡ take at bytes ++ 10 ∷ drop (at + 1) bytes
-
--- what was found at the front of these bytes
-abbrev pub Finds : List ℕ → Reading → Result Found ReadError → Type 0
-Finds bytes r (Ok Line) = (bytes ≡ held_bytes true r) × IsLine r.line
-Finds bytes r (Ok End) = (bytes ≡ r.line) × (r.ahead ≡ []) × IsLine r.line
-Finds bytes r (Ok TooLong) = ((more : List ℕ) × (bytes ≡ r.line ++ more)) × IsTooLong r.line
-Finds bytes r (Err Failed) = (bytes ≡ r.line) × (r.ahead ≡ []) × IsLine r.line
-Finds bytes r (Err Memory) = (bytes ≡ r.line ++ r.ahead) × HasNoNewline r.line
-
--- the source is at its end where the end was found
-abbrev pub EndsAt : Option (List ℕ) → Result Found ReadError → Type 0
-EndsAt left (Ok End) = IsAtEnd left
-EndsAt left _ = Unit {0}
-
--- a read of the next line: what was ahead before, and then the bytes that the source gave, are what was found
-abbrev pub ReadsLine : Option (List ℕ) → Option (List ℕ) → Reading → Reading → Result Found ReadError → Type 0
-ReadsLine before after old new result =
-    (consumed : List ℕ) × Consumes before after consumed × Finds (old.ahead ++ consumed) new result × EndsAt after result
 
 -- lines, each with its newline
 abbrev pub ended : List (List ℕ) → List ℕ

@@ -1,24 +1,20 @@
 -- A session: what the commands of a script do, one after the other, and what each prints.
-use Rattle.std.specs.Prelude.{◌≡◌, ◌⊎◌, ℕ, Bool, false, List, [], ◌∷◌, ⊤, Option, Some, None}
+use Rattle.std.specs.Prelude.{◌≡◌, ◌⊎◌, ℕ, Bool, false, List, ⊤, Option, Some, None}
 use Rattle.kl_states.specs.declared.verdict.Verdict.{Verdict}
 use Rattle.kl_states.specs.declared.verdict.Verdict.TheVariants.{Pass, Failed, Invalid}
-use Rattle.kl_keys.specs.Relations.{Relations}
-use Rattle.kl_keys.specs.Causes.{Rose}
+use Rattle.kl_keys.specs.Told.{KeysTold}
 use Rattle.kl_quote.specs.declared.evidence.Evidence.{Evidence}
+use Rattle.kl_appraise.specs.Asking.{AskedOnce}
 use Rattle.kl_appraise.specs.Terms.{AreTerms, TermsFields}
 use Rattle.kl_appraise.specs.QuoteRules.{IsAnswered, IsUnasked}
 use Rattle.kl_appraise.specs.ListRules.{check_of}
 use Rattle.kl_appraise.specs.Outcome.{whole_case, IsVerdict}
-use Rattle.kl_script.specs.Commands.{AddFields, ReplyFields, CommandFields, add, begin, reply, Spells}
+use Rattle.kl_script.specs.declared.command.Add.{Add}
+use Rattle.kl_script.specs.Commands.{ReplyFields, CommandFields, add, begin, reply, Spells}
 use Rattle.kl_console.specs.declared.texts.Refusal.{Refusal}
+use Rattle.kl_console.specs.Calls.{FailsAtLast}
 use Rattle.kl_console.specs.Terms.{IsRefusal, NamesTerms}
 use Rattle.kl_console.specs.Texts.{dropped_text, installed_text, judged_text, polled_text, refused_text}
-
--- what the key object tells of its answers, and its count of faults before the session and after it
-pub record KeyLog : Type 0 where
-  pub told : Option Relations
-  pub before : ℕ
-  pub after : ℕ
 
 -- how far a session has come
 pub data Stage : Type 0 where
@@ -39,7 +35,7 @@ IsNext (Polled agent terms nonce) (reply r) = ⊤
 IsNext _ _ = ⊥
 
 -- An add installs the terms that it names, or it is refused, after which no command has a place.
-unfoldable pub Adds : AddFields → Stage → List ℕ → Type 0
+unfoldable pub Adds : Add → Stage → List ℕ → Type 0
 Adds a next text =
     ((terms : TermsFields) × NamesTerms a terms × AreTerms terms × (next ≡ Installed a.agent terms) × (text ≡ installed_text a.agent))
     ⊎ ((why : Refusal) × IsRefusal a why × (next ≡ Over) × (text ≡ refused_text why))
@@ -56,50 +52,44 @@ state_after v (Invalid cause) = 9
 abbrev pub fields_of : Evidence → ReplyFields
 fields_of e = record { bank = e.bank; start = e.start; public = e.public; quote = e.quote; list = e.list }
 
+-- No rule before that on the signature decides, so the key object is to be asked about the evidence.
+abbrev pub IsToAsk : TermsFields → List ℕ → Evidence → Type 0
+IsToAsk terms nonce e = ¬ (IsUnasked (check_of (whole_case terms nonce e false)))
+
+-- It was asked once, for the quote's signature, where it was to be asked, and else it was not. The relations that it tells stay.
+pub record AsksAsDue (keys keys' : KeysTold) (terms : TermsFields) (nonce : List ℕ) (e : Evidence) : Type 0 where
+  pub told : keys'.relations ≡ keys.relations
+  pub due : IsToAsk terms nonce e → AskedOnce keys keys' terms.ak e.quote
+  pub undue : IsUnasked (check_of (whole_case terms nonce e false)) → keys' ≡ keys
+
 -- The evidence has this verdict, under the answer that the key object gives where it is asked.
-abbrev pub IsJudged : KeyLog → TermsFields → List ℕ → Evidence → List ℕ → Type 0
+abbrev pub IsJudged : KeysTold → TermsFields → List ℕ → Evidence → List ℕ → Type 0
 IsJudged keys terms nonce e text =
-    (signed : Bool) × (verdict : Verdict) × IsAnswered keys.told terms.ak (check_of (whole_case terms nonce e signed))
+    (signed : Bool) × (verdict : Verdict) × IsAnswered keys.relations terms.ak (check_of (whole_case terms nonce e signed))
     × IsVerdict (whole_case terms nonce e signed) verdict × (text ≡ judged_text verdict (state_after terms.v verdict))
 
--- No rule before that on the signature decides, so the key object is to be asked; and its count of faults rose.
-abbrev pub IsDropped : KeyLog → TermsFields → List ℕ → Evidence → List ℕ → Type 0
-IsDropped keys terms nonce e text =
-    Rose keys.before keys.after × (¬ IsUnasked (check_of (whole_case terms nonce e false))) × (text ≡ dropped_text)
+-- The key object was to be asked, and could not be.
+abbrev pub IsDropped : TermsFields → List ℕ → Evidence → List ℕ → Type 0
+IsDropped terms nonce e text = IsToAsk terms nonce e × (text ≡ dropped_text)
 
--- A reply is appraised as a whole list since boot: it has a verdict, or the key object could not be asked.
-unfoldable pub Concludes : KeyLog → TermsFields → List ℕ → ReplyFields → List ℕ → Type 0
-Concludes keys terms nonce r text =
-    (e : Evidence) × (fields_of e ≡ r) × (IsJudged keys terms nonce e text ⊎ IsDropped keys terms nonce e text)
+-- A reply is appraised as a whole list since boot: it has a verdict, or, exactly where the key object met a fault, none.
+unfoldable pub Concludes : KeysTold → KeysTold → TermsFields → List ℕ → ReplyFields → List ℕ → Type 0
+Concludes keys keys' terms nonce r text =
+    (e : Evidence) × (fields_of e ≡ r) × AsksAsDue keys keys' terms nonce e
+    × ((FailsAtLast keys.calls keys'.calls ⊥ × IsJudged keys terms nonce e text) ⊎ (FailsAtLast keys.calls keys'.calls ⊤ × IsDropped terms nonce e text))
 
--- the command, at its place, leads to the next stage and prints this text
-unfoldable pub Obeys : KeyLog → Stage → CommandFields → Stage → List ℕ → Type 0
-Obeys keys Empty (add a) next text = Adds a next text
-Obeys keys (Installed agent terms) (begin b) next text =
-    (b.agent ≡ agent) × (next ≡ Polled agent terms b.nonce) × (text ≡ polled_text agent b.nonce)
-Obeys keys (Polled agent terms nonce) (reply r) next text = (next ≡ Over) × Concludes keys terms nonce r text
-Obeys keys _ _ next text = ⊥
+-- the command, at its place, leads to the next stage and prints this text; the key object told the one before it, and the other after it
+unfoldable pub Obeys : KeysTold → KeysTold → Stage → CommandFields → Stage → List ℕ → Type 0
+Obeys keys keys' Empty (add a) next text = (keys' ≡ keys) × Adds a next text
+Obeys keys keys' (Installed agent terms) (begin b) next text =
+    (keys' ≡ keys) × (b.agent ≡ agent) × (next ≡ Polled agent terms b.nonce) × (text ≡ polled_text agent b.nonce)
+Obeys keys keys' (Polled agent terms nonce) (reply r) next text = (next ≡ Over) × Concludes keys keys' terms nonce r text
+Obeys keys keys' _ _ next text = ⊥
 
 -- the line spells a command that, at its place, leads to the next stage and prints this text
-unfoldable pub Does : KeyLog → Stage → List ℕ → Stage → List ℕ → Type 0
-Does keys stage line next text = (c : CommandFields) × Spells line c × Obeys keys stage c next text
+unfoldable pub Does : KeysTold → KeysTold → Stage → List ℕ → Stage → List ℕ → Type 0
+Does keys keys' stage line next text = (c : CommandFields) × Spells line c × Obeys keys keys' stage c next text
 
 -- the line spells no command of this place
 unfoldable pub IsNoCommand : Stage → List ℕ → Type 0
 IsNoCommand stage line = (c : CommandFields) → Spells line c → ¬ (IsNext stage c)
-
--- these lines, each with the command of its place, print these texts
-abbrev pub Follows : KeyLog → Stage → List (List ℕ) → List (List ℕ) → Stage → Type 0
-Follows keys stage [] [] last = last ≡ stage
-Follows keys stage (line ∷ lines) (text ∷ texts) last = (next : Stage) × Does keys stage line next text × Follows keys next lines texts last
-Follows keys stage _ _ last = ⊥
-
--- the stage in which a reply is awaited
-abbrev pub IsPolled : Stage → Type 0
-IsPolled (Polled agent terms nonce) = ⊤
-IsPolled _ = ⊥
-
--- no rule before that on the signature decides on the reply that is awaited, so the key object is to be asked about it
-abbrev pub IsToAsk : Stage → ReplyFields → Type 0
-IsToAsk (Polled agent terms nonce) r = (e : Evidence) × (fields_of e ≡ r) × (¬ IsUnasked (check_of (whole_case terms nonce e false)))
-IsToAsk _ r = ⊥

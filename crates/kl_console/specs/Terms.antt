@@ -8,7 +8,7 @@ use Rattle.kl_policy.specs.Flat.{IsFlatFault, ListsDigests}
 use Rattle.kl_policy.specs.PolicyFields.{PolicyFields}
 use Rattle.kl_pcr.specs.Statics.{AreStatics}
 use Rattle.kl_appraise.specs.Terms.{IsMask, TermsFields}
-use Rattle.kl_script.specs.Commands.{AddFields}
+use Rattle.kl_script.specs.declared.command.Add.{Add}
 use Rattle.kl_console.specs.declared.texts.Refusal.{Refusal}
 use Rattle.kl_console.specs.declared.texts.Refusal.TheVariants.{PolicyLine, PolicyPaths, Mask, Static}
 
@@ -22,7 +22,7 @@ pub record IsFlatPolicy (text : List ℕ) (p : PolicyFields) : Type 0 where
   pub violations : p.passes_violations ≡ false
 
 -- the terms have the parts of the add, and its policy
-pub record NamesTerms (a : AddFields) (t : TermsFields) : Type 0 where
+pub record NamesTerms (a : Add) (t : TermsFields) : Type 0 where
   pub contact : t.contact ≡ a.contact
   pub bank : t.bank ≡ a.bank
   pub mask : t.mask ≡ a.mask
@@ -32,7 +32,7 @@ pub record NamesTerms (a : AddFields) (t : TermsFields) : Type 0 where
   pub policy : IsFlatPolicy a.policy t.policy
 
 -- why the add names no terms, the first cause: its policy is none, then its mask, then its static PCRs
-abbrev pub IsRefusal : AddFields → Refusal → Type 0
+abbrev pub IsRefusal : Add → Refusal → Type 0
 IsRefusal a (PolicyLine place) = IsFlatFault a.policy (Line place)
 IsRefusal a PolicyPaths = IsFlatFault a.policy (Limit Paths)
 IsRefusal a Mask = (p : PolicyFields) × IsFlatPolicy a.policy p × (¬ IsMask a.mask)

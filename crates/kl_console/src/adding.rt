@@ -2,11 +2,10 @@
 
 ghost use Rattle.std.specs.Prelude.{◌≢◌, Err, IfOk, IfErr, string_bytes};
 ghost use Rattle.kl_appraise.specs.Terms.{AreTerms};
-ghost use Rattle.kl_script.specs.Commands.{add_fields};
 ghost use Rattle.kl_console.specs.Session.{Adds};
-ghost use Rattle.kl_console.specs.Stages.{stage_of};
+ghost use Rattle.kl_console.specs.Inner.Stages.{stage_of};
 ghost use Rattle.kl_console.specs.Terms.{IsFlatPolicy, NamesTerms};
-ghost use Rattle.kl_console.specs.Faults.{IsPolicyFault, IsAddFault};
+ghost use Rattle.kl_console.specs.Inner.Faults.{IsPolicyFault, IsAddFault};
 
 use crate::session::{Enrolled, Stage, Stop};
 use crate::texts::{Refusal, installed_line, refused_line};
@@ -41,9 +40,9 @@ fn policy_of(alloc: Global, text: Text) -> Result<Policy, AddFault>
 
 /// The terms that an add names.
 fn terms_of(alloc: Global, add: Add) -> Result<Terms, AddFault>
-    ensures names { IfOk result (λ t. NamesTerms (add_fields add) t) }
+    ensures names { IfOk result (λ t. NamesTerms add t) }
     ensures good { IfOk result (λ t. AreTerms t) }
-    ensures fault { IfErr result (λ f. IsAddFault (add_fields add) f) }
+    ensures fault { IfErr result (λ f. IsAddFault add f) }
 {
     let policy = policy_of(alloc, add.policy)?;
     let contact = add.contact.into_string();
@@ -59,7 +58,7 @@ fn terms_of(alloc: Global, add: Add) -> Result<Terms, AddFault>
 /// Installs the terms that an add names. The answer is the next stage and the line to print.
 #[tactic(auto, unfolding(crate::specs::Session::Adds))]
 pub fn install(alloc: Global, add: Add) -> Result<(Stage, String), Stop>
-    ensures done { IfOk result (λ done. Adds (add_fields add) (stage_of done.0) (string_bytes done.1)) }
+    ensures done { IfOk result (λ done. Adds add (stage_of done.0) (string_bytes done.1)) }
     ensures none { result ≢ Err Stop.NoCommand }
 {
     let id = add.agent;

@@ -1,12 +1,9 @@
 //! What a `reply` does.
 
-ghost use Rattle.std.specs.Prelude.{◌≡◌, ◌≢◌, ◌⊎◌, ◌≤◌, ◌+◌, Err, IfOk, length, string_bytes, false};
-ghost use Rattle.kl_entry.specs.Lines.{lines_of};
-ghost use Rattle.kl_appraise.specs.QuoteRules.{IsUnasked};
-ghost use Rattle.kl_appraise.specs.ListRules.{check_of};
-ghost use Rattle.kl_appraise.specs.Outcome.{whole_case};
-ghost use Rattle.kl_console.specs.Session.{Concludes, Over, fields_of, state_after};
-ghost use Rattle.kl_console.specs.Stages.{stage_of};
+ghost use Rattle.std.specs.Prelude.{◌≡◌, ◌≢◌, ◌⊎◌, ◌≤◌, [], Err, IfOk, string_bytes};
+ghost use Rattle.kl_console.specs.Session.{Concludes, Over, Polled, fields_of, state_after};
+ghost use Rattle.kl_console.specs.Replies.{IsAsked, IsMeasured};
+ghost use Rattle.kl_console.specs.Inner.Stages.{stage_of};
 
 use crate::session::{Stage, Stop};
 use crate::texts::{dropped_line, judged_line};
@@ -41,17 +38,16 @@ pub fn conclude<Y: Keys, L: Ledger>(
     steps: &mut Steps<L>,
 ) -> Result<(Stage, String), Stop>
     ensures over { IfOk result (λ done. stage_of done.0 ≡ Over) }
-    ensures done { IfOk result (λ done. Concludes (record {
-      told = Y.told keys.old;
-      before = Y.fault_count keys.old;
-      after = Y.fault_count keys.new;
-    })
-        terms.now nonce.now (fields_of evidence.now) (string_bytes done.1)) }
+    ensures done { IfOk result (λ done. Concludes (Y.told keys.old) (Y.told keys.new) terms.now nonce.now (fields_of evidence.now)
+        (string_bytes done.1)) }
     ensures none { result ≢ Err Stop.NoCommand }
-    ensures asked { (keys.new ≡ keys.old) ⊎ (¬ (IsUnasked (check_of (whole_case terms.now nonce.now evidence.now false)))) }
-    ensures told { Y.told keys.new ≡ Y.told keys.old }
-    ensures count { Y.fault_count keys.old ≤ Y.fault_count keys.new }
-    ensures cost { steps.new ≤ steps.old + length (lines_of evidence.now.list) }
+    // Of the stage, the agent does not count.
+    ensures asked { (keys.new ≡ keys.old)
+        ⊎ IsAsked (Y.told keys.old) (Y.told keys.new) (Polled [] terms.now nonce.now) (fields_of evidence.now) }
+    ensures told { (Y.told keys.new).relations ≡ (Y.told keys.old).relations }
+    ensures count { (Y.told keys.old).calls.faults ≤ (Y.told keys.new).calls.faults }
+    ensures cost { (steps.new ≡ steps.old)
+        ⊎ IsMeasured (Y.told keys.old).relations steps.old steps.new (Polled [] terms.now nonce.now) (fields_of evidence.now) }
 {
     match appraise_whole(alloc, terms, nonce, evidence, keys, steps) {
         Ok(judged) => {

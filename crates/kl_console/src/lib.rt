@@ -10,7 +10,7 @@ mod texts;
 mod turn;
 mod unique;
 
-pub use program::run;
+pub use program::{is_only_word, run, run_counted};
 pub use unique::one_output;
 
 #[cfg(test)]

@@ -2,8 +2,9 @@
 
 ghost use Rattle.std.specs.Prelude.{◌≡◌, ◌++◌, [], List, ℕ, Err, ◌<◌, ◌≤◌, true, false, length, IfOk, OnErr, IfSome, IfNone};
 ghost use Rattle.std.specs.Io.KnownBytes.{Consumes, IsAtEnd};
-ghost use Rattle.kl_io.specs.Causes.{HasCause, Rose};
-ghost use Rattle.kl_console.specs.Lines.{HasNoNewline, IsNewlineAt, ReadsLine, held_bytes};
+ghost use Rattle.kl_entry.specs.Lines.{HasNo};
+ghost use Rattle.kl_console.specs.Calls.{FailsAtLast};
+ghost use Rattle.kl_console.specs.Inner.Reading.{IsNewlineAt, ReadsLine, held_bytes};
 
 use kl_io::Source;
 use memchr::memchr;
@@ -50,7 +51,7 @@ impl From<AllocError> for ReadError {
 /// Where the first newline stands.
 fn newline_at(bytes: &[u8]) -> Option<usize>
     ensures found { IfSome result (IsNewlineAt bytes.now) }
-    ensures none { IfNone result (HasNoNewline bytes.now) }
+    ensures none { IfNone result (HasNo 10 bytes.now) }
 {
     memchr(b'\n', bytes)
 }
@@ -66,7 +67,7 @@ pub struct LineReader {
 
 impl Model for LineReader {
     ghost use Rattle.std.specs.Prelude.{◌≡◌, ◌≤◌, ◌-◌, take, drop, length, vec_len};
-    ghost use Rattle.kl_console.specs.Lines.{Reading};
+    ghost use Rattle.kl_console.specs.Inner.Reading.{Reading};
 
     ghost Value = { Reading };
 
@@ -111,10 +112,9 @@ impl LineReader {
     /// # Errors
     /// `Failed` where the source met a fault in this call, `Memory` where there is none for the line.
     pub fn next<S: Source>(&mut self, source: &mut S) -> Result<Found, ReadError>
-        ensures reads { ReadsLine (S.left source.old) (S.left source.new) self.old self.new result }
-        ensures count { S.fault_count source.old ≤ S.fault_count source.new }
-        ensures failed { result ≡ Err ReadError.Failed → Rose (S.fault_count source.old) (S.fault_count source.new) }
-        ensures place { S.place source.new ≡ S.place source.old }
+        ensures reads { ReadsLine (S.told source.old).left (S.told source.new).left self.old self.new result }
+        ensures failed { FailsAtLast (S.told source.old).calls (S.told source.new).calls (result ≡ Err ReadError.Failed) }
+        ensures place { (S.told source.new).place ≡ (S.told source.old).place }
     {
         self.line.clear();
         if !self.prime(source)? {
@@ -125,13 +125,13 @@ impl LineReader {
 
     /// Sees that bytes are ahead, unless the source is at its end. The answer is whether there are any.
     fn prime<S: Source>(&mut self, source: &mut S) -> Result<bool, ReadError>
-        ensures bytes { (consumed : List ℕ) × Consumes (S.left source.old) (S.left source.new) consumed × (self.new.ahead ≡ self.old.ahead ++ consumed) }
+        ensures bytes { (consumed : List ℕ) × Consumes (S.told source.old).left (S.told source.new).left consumed × (self.new.ahead ≡ self.old.ahead ++ consumed) }
         ensures line { self.new.line ≡ self.old.line }
         ensures some { IfOk result (λ some. some ≡ true → 0 < length self.new.ahead) }
-        ensures end { IfOk result (λ some. some ≡ false → (self.new.ahead ≡ []) × IsAtEnd (S.left source.new)) }
+        ensures end { IfOk result (λ some. some ≡ false → (self.new.ahead ≡ []) × IsAtEnd (S.told source.new).left) }
         ensures err { OnErr result (self.new.ahead ≡ []) }
-        ensures cause { HasCause (S.fault_count source.old) (S.fault_count source.new) result }
-        ensures place { S.place source.new ≡ S.place source.old }
+        ensures failed { FailsAtLast (S.told source.old).calls (S.told source.new).calls (result ≡ Err ReadError.Failed) }
+        ensures place { (S.told source.new).place ≡ (S.told source.old).place }
     {
         if self.start < self.end {
             return Ok(true);
@@ -143,10 +143,9 @@ impl LineReader {
     fn gather<S: Source>(&mut self, source: &mut S) -> Result<Found, ReadError>
         requires ahead { 0 < length self.old.ahead }
         requires line { self.old.line ≡ [] }
-        ensures reads { ReadsLine (S.left source.old) (S.left source.new) self.old self.new result }
-        ensures count { S.fault_count source.old ≤ S.fault_count source.new }
-        ensures failed { result ≡ Err ReadError.Failed → Rose (S.fault_count source.old) (S.fault_count source.new) }
-        ensures place { S.place source.new ≡ S.place source.old }
+        ensures reads { ReadsLine (S.told source.old).left (S.told source.new).left self.old self.new result }
+        ensures failed { FailsAtLast (S.told source.old).calls (S.told source.new).calls (result ≡ Err ReadError.Failed) }
+        ensures place { (S.told source.new).place ≡ (S.told source.old).place }
     {
         'turns: loop {
             let whole = self.take_piece()?;
@@ -165,7 +164,7 @@ impl LineReader {
     /// Appends what the chunk has of the line, up to its newline. The answer is whether the newline was met.
     fn take_piece(&mut self) -> Result<bool, AllocError>
         ensures bytes { IfOk result (λ whole. held_bytes whole self.new ≡ self.old.line ++ self.old.ahead) }
-        ensures no_newline { HasNoNewline self.old.line → HasNoNewline self.new.line }
+        ensures no_newline { HasNo 10 self.old.line → HasNo 10 self.new.line }
         ensures rest { IfOk result (λ whole. whole ≡ false → self.new.ahead ≡ []) }
         ensures err { OnErr result (self.new ≡ self.old) }
     {
@@ -187,13 +186,13 @@ impl LineReader {
     /// Asks the source for one turn of bytes, where none are ahead. The answer is whether there were any.
     fn fill<S: Source>(&mut self, source: &mut S) -> Result<bool, ReadError>
         requires { self.old.ahead ≡ [] }
-        ensures bytes { Consumes (S.left source.old) (S.left source.new) self.new.ahead }
+        ensures bytes { Consumes (S.told source.old).left (S.told source.new).left self.new.ahead }
         ensures line { self.new.line ≡ self.old.line }
         ensures some { IfOk result (λ some. some ≡ true → 0 < length self.new.ahead) }
-        ensures end { IfOk result (λ some. some ≡ false → (self.new.ahead ≡ []) × IsAtEnd (S.left source.new)) }
+        ensures end { IfOk result (λ some. some ≡ false → (self.new.ahead ≡ []) × IsAtEnd (S.told source.new).left) }
         ensures err { OnErr result (self.new.ahead ≡ []) }
-        ensures failed { HasCause (S.fault_count source.old) (S.fault_count source.new) result }
-        ensures place { S.place source.new ≡ S.place source.old }
+        ensures failed { FailsAtLast (S.told source.old).calls (S.told source.new).calls (result ≡ Err ReadError.Failed) }
+        ensures place { (S.told source.new).place ≡ (S.told source.old).place }
     {
         self.start = 0;
         self.end = 0;

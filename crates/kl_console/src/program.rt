@@ -1,25 +1,26 @@
 //! What the program does.
 
 ghost use Rattle.std.specs.Prelude.{◌≡◌, ◌≢◌, ◌↔◌, ◌⊎◌, ◌≤◌, ◌∷◌, [], map, codes, string_bytes, IsTrue};
-ghost use Rattle.kl_io.specs.Causes.{Rose};
-ghost use Rattle.kl_console.specs.Run.{Asks, Costs, IsBroken, IsCutOff, IsDone, IsFaulty, IsShort, IsStatus, Ran};
-ghost use Rattle.kl_console.specs.Turns.{status_of};
+ghost use Rattle.kl_console.specs.Calls.{FailsAtLast};
+ghost use Rattle.kl_console.specs.Run.{moment, EndsAs, IsBroken, IsCutOff, IsDone, IsFaulty, IsShort, IsStatus};
+ghost use Rattle.kl_console.specs.Replies.{HasReply, IsAsked, IsMeasured};
+ghost use Rattle.kl_console.specs.Inner.Turns.{status_of};
 
 use crate::turn::{End, play};
 use kl_io::{Sink, Source};
 use kl_keys::Keys;
 use kl_pcr::Steps;
 use std::alloc::Global;
-use std::sync::ledger::Ledger;
+use std::sync::ledger::{Blank, Ledger};
 
 /// The number with which the program ends where the words are no command line of it.
 const USAGE: u8 = 2;
 
-/// Whether these are the words `run`.
-fn is_run(words: &[String]) -> bool
-    ensures { IsTrue result ↔ (map string_bytes words.now ≡ codes "run" ∷ []) }
+/// Whether the command line has this word, and no other.
+pub fn is_only_word(words: &[String], word: &str) -> bool
+    ensures { IsTrue result ↔ (map string_bytes words.now ≡ word.now ∷ []) }
 {
-    words.len() == 1 && words[0].as_str() == "run"
+    words.len() == 1 && words[0].as_str() == word
 }
 
 impl End {
@@ -60,59 +61,83 @@ pub fn run<S: Source, K: Sink, Y: Keys, L: Ledger>(
     keys: &mut Y,
     steps: &mut Steps<L>,
 ) -> u8
-    // 0: all of the script was read, each line was the command of its place, and all texts were written.
-    ensures done { result ≡ 0
-        → Ran (S.left script.old) (S.left script.new) (K.held out.old) (K.held out.new) (IsDone
-        (record { told = Y.told keys.old; before = Y.fault_count keys.old; after = Y.fault_count keys.new })
-        (S.left script.new)) }
+    // 0: all of the script was read, each line was the command of its place, and all texts were written, each by one put.
+    ensures done { result ≡ 0 → IsDone (moment (S.told script.old) (K.told out.old) (Y.told keys.old))
+        (moment (S.told script.new) (K.told out.new) (Y.told keys.new)) }
     // 2: the words are other ones.
     ensures usage { (result ≡ 2) ↔ (map string_bytes words.now ≢ codes "run" ∷ []) }
-    // 3: the texts of the lines before the first bad one were written, and then which that is.
-    ensures fault { result ≡ 3
-        → Ran (S.left script.old) (S.left script.new) (K.held out.old) (K.held out.new) (IsFaulty
-        (record { told = Y.told keys.old; before = Y.fault_count keys.old; after = Y.fault_count keys.new })
-        (S.left script.new)) }
-    // 4: the script met a fault; the texts of the lines before were written.
-    ensures read_fault { result ≡ 4
-        → Ran (S.left script.old) (S.left script.new) (K.held out.old) (K.held out.new) (IsBroken
-        (record { told = Y.told keys.old; before = Y.fault_count keys.old; after = Y.fault_count keys.new })) }
-    ensures read_cause { result ≡ 4 → Rose (S.fault_count script.old) (S.fault_count script.new) }
-    // 5: the output met a fault; the texts of the lines before were written, and a beginning of what was to be printed next.
-    ensures write_fault { result ≡ 5
-        → Ran (S.left script.old) (S.left script.new) (K.held out.old) (K.held out.new) (IsCutOff
-        (record { told = Y.told keys.old; before = Y.fault_count keys.old; after = Y.fault_count keys.new })
-        (S.left script.new)) }
-    ensures write_cause { result ≡ 5 → Rose (K.fault_count out.old) (K.fault_count out.new) }
-    // 70: memory ran out; the texts of lines that were read were written, each whole.
-    ensures memory { result ≡ 70
-        → Ran (S.left script.old) (S.left script.new) (K.held out.old) (K.held out.new) (IsShort
-        (record { told = Y.told keys.old; before = Y.fault_count keys.old; after = Y.fault_count keys.new })) }
+    // 3: the texts of the lines before the first bad one were written, and then which that is, each by one put.
+    ensures fault { result ≡ 3 → IsFaulty (moment (S.told script.old) (K.told out.old) (Y.told keys.old))
+        (moment (S.told script.new) (K.told out.new) (Y.told keys.new)) }
+    // 4: the texts of the lines before were written.
+    ensures read_fault { result ≡ 4 → IsBroken (moment (S.told script.old) (K.told out.old) (Y.told keys.old))
+        (moment (S.told script.new) (K.told out.new) (Y.told keys.new)) }
+    // The last read of the script met a fault at 4, and no other did.
+    ensures read_cause { FailsAtLast (S.told script.old).calls (S.told script.new).calls (result ≡ 4) }
+    // 5: the texts of the lines before were written, and by the last put a front of what was to be printed next.
+    ensures write_fault { result ≡ 5 → IsCutOff (moment (S.told script.old) (K.told out.old) (Y.told keys.old))
+        (moment (S.told script.new) (K.told out.new) (Y.told keys.new)) }
+    // The last put met a fault at 5, and no other did.
+    ensures write_cause { FailsAtLast (K.told out.old).calls (K.told out.new).calls (result ≡ 5) }
+    // 70: memory ran out; the texts of lines that were read were written, each whole and by one put.
+    ensures memory { result ≡ 70 → IsShort (moment (S.told script.old) (K.told out.old) (Y.told keys.old))
+        (moment (S.told script.new) (K.told out.new) (Y.told keys.new)) }
     // There are no other numbers.
     ensures statuses { IsStatus result }
     // At 2 nothing was read, written, asked or counted.
     ensures unread { result ≡ 2 → script.new ≡ script.old }
     ensures unwritten { result ≡ 2 → out.new ≡ out.old }
     ensures unasked { result ≡ 2 → (keys.new ≡ keys.old) × (steps.new ≡ steps.old) }
-    // A step was taken only where the reply that was awaited was read and the texts of the lines before it were written,
-    // and at most one for each line of its list.
-    ensures cost { Ran (S.left script.old) (S.left script.new) (K.held out.old) (K.held out.new) (Costs
-        (record { told = Y.told keys.old; before = Y.fault_count keys.old; after = Y.fault_count keys.new })
-        steps.old steps.new) }
+    // Steps were taken only for the reply that was awaited, once it was read and the texts of the lines before it were
+    // written, and only where its verdict is one that the replay of its list decides: at most one for each line of the list.
+    ensures cost { (steps.new ≡ steps.old) ⊎ HasReply (moment (S.told script.old) (K.told out.old) (Y.told keys.old))
+        (moment (S.told script.new) (K.told out.new) (Y.told keys.new))
+        (IsMeasured (Y.told keys.old).relations steps.old steps.new) }
     // The key object is left as it was, unless a reply was read that it is to be asked about, and the texts of the lines
-    // before it were written.
-    ensures asked { (keys.new ≡ keys.old) ⊎ Asks
-        (record { told = Y.told keys.old; before = Y.fault_count keys.old; after = Y.fault_count keys.new })
-        (S.left script.old) (S.left script.new) (K.held out.old) (K.held out.new) }
-    ensures told { Y.told keys.new ≡ Y.told keys.old }
-    // No count of faults falls.
-    ensures script_count { S.fault_count script.old ≤ S.fault_count script.new }
-    ensures out_count { K.fault_count out.old ≤ K.fault_count out.new }
-    ensures keys_count { Y.fault_count keys.old ≤ Y.fault_count keys.new }
-    ensures script_place { S.place script.new ≡ S.place script.old }
-    ensures out_place { K.place out.new ≡ K.place out.old }
+    // before it were written; then it was asked once, about that reply.
+    ensures asked { (keys.new ≡ keys.old) ⊎ HasReply (moment (S.told script.old) (K.told out.old) (Y.told keys.old))
+        (moment (S.told script.new) (K.told out.new) (Y.told keys.new))
+        (IsAsked (Y.told keys.old) (Y.told keys.new)) }
+    ensures told { (Y.told keys.new).relations ≡ (Y.told keys.old).relations }
+    // Its count of faults does not fall.
+    ensures keys_count { (Y.told keys.old).calls.faults ≤ (Y.told keys.new).calls.faults }
+    ensures script_place { (S.told script.new).place ≡ (S.told script.old).place }
+    ensures out_place { (K.told out.new).place ≡ (K.told out.old).place }
 {
-    if !is_run(words) {
+    if !is_only_word(words, "run") {
         return USAGE;
     }
     play(alloc, script, out, keys, steps).status()
+}
+
+/// The same, where nobody looks at the count of steps: it makes one of its own, from a blank.
+///
+/// What `run` says of the words, the numbers and their causes, and of what the key object is asked, is said here too.
+pub fn run_counted<S: Source, K: Sink, Y: Keys, L: Ledger>(
+    alloc: Global,
+    words: &[String],
+    script: &mut S,
+    out: &mut K,
+    keys: &mut Y,
+    blank: Blank,
+) -> u8
+    requires name { blank.name ≡ L.name }
+    requires parts { blank.parts ≡ L.parts }
+    requires some { 1 ≤ blank.parts }
+    ensures ends { EndsAs (moment (S.told script.old) (K.told out.old) (Y.told keys.old))
+        (moment (S.told script.new) (K.told out.new) (Y.told keys.new)) result }
+    ensures usage { (result ≡ 2) ↔ (map string_bytes words.now ≢ codes "run" ∷ []) }
+    ensures statuses { IsStatus result }
+    ensures unread { result ≡ 2 → script.new ≡ script.old }
+    ensures unwritten { result ≡ 2 → out.new ≡ out.old }
+    ensures unasked { result ≡ 2 → keys.new ≡ keys.old }
+    ensures asked { (keys.new ≡ keys.old) ⊎ HasReply (moment (S.told script.old) (K.told out.old) (Y.told keys.old))
+        (moment (S.told script.new) (K.told out.new) (Y.told keys.new))
+        (IsAsked (Y.told keys.old) (Y.told keys.new)) }
+    ensures told { (Y.told keys.new).relations ≡ (Y.told keys.old).relations }
+    ensures keys_count { (Y.told keys.old).calls.faults ≤ (Y.told keys.new).calls.faults }
+    ensures script_place { (S.told script.new).place ≡ (S.told script.old).place }
+    ensures out_place { (K.told out.new).place ≡ (K.told out.old).place }
+{
+    run(alloc, words, script, out, keys, &mut Steps::<L>::of(blank))
 }

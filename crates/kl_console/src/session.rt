@@ -1,11 +1,12 @@
 //! What commands do, one after the other.
 
-ghost use Rattle.std.specs.Prelude.{◌≡◌, ◌≢◌, ◌⊎◌, ◌≤◌, ◌+◌, Err, IfOk, string_bytes};
+ghost use Rattle.std.specs.Prelude.{◌≡◌, ◌≢◌, ◌⊎◌, ◌≤◌, Err, IfOk, string_bytes};
 ghost use Rattle.kl_script.specs.Commands.{fields};
 ghost use Rattle.kl_console.specs.Session.{IsNext, Obeys};
-ghost use Rattle.kl_console.specs.Stages.{stage_of};
+ghost use Rattle.kl_console.specs.Replies.{IsAsked, IsMeasured};
 ghost use Rattle.kl_console.specs.Texts.{polled_text};
-ghost use Rattle.kl_console.specs.Turns.{CommandAsks, cost_of};
+ghost use Rattle.kl_console.specs.Inner.Stages.{stage_of};
+ghost use Rattle.kl_console.specs.Inner.Turns.{IsReply};
 
 use crate::adding::install;
 use crate::concluding::conclude;
@@ -67,17 +68,15 @@ pub fn obey<Y: Keys, L: Ledger>(
     keys: &mut Y,
     steps: &mut Steps<L>,
 ) -> Result<(Stage, String), Stop>
-    ensures done { IfOk result (λ done. Obeys (record {
-      told = Y.told keys.old;
-      before = Y.fault_count keys.old;
-      after = Y.fault_count keys.new;
-    })
-        (stage_of stage) (fields command) (stage_of done.0) (string_bytes done.1)) }
-    ensures none { result ≡ Err Stop.NoCommand → ¬ (IsNext (stage_of stage) (fields command)) }
-    ensures asked { (keys.new ≡ keys.old) ⊎ CommandAsks (stage_of stage) (fields command) }
-    ensures told { Y.told keys.new ≡ Y.told keys.old }
-    ensures count { Y.fault_count keys.old ≤ Y.fault_count keys.new }
-    ensures cost { steps.new ≤ steps.old + cost_of (stage_of stage) (fields command) }
+    ensures done { IfOk result (λ done. Obeys (Y.told keys.old) (Y.told keys.new) (stage_of stage) (fields command)
+        (stage_of done.0) (string_bytes done.1)) }
+    ensures none { result ≡ Err Stop.NoCommand → (keys.new ≡ keys.old) × (¬ (IsNext (stage_of stage) (fields command))) }
+    ensures asked { (keys.new ≡ keys.old)
+        ⊎ IsReply (fields command) (IsAsked (Y.told keys.old) (Y.told keys.new) (stage_of stage)) }
+    ensures told { (Y.told keys.new).relations ≡ (Y.told keys.old).relations }
+    ensures count { (Y.told keys.old).calls.faults ≤ (Y.told keys.new).calls.faults }
+    ensures cost { (steps.new ≡ steps.old)
+        ⊎ IsReply (fields command) (IsMeasured (Y.told keys.old).relations steps.old steps.new (stage_of stage)) }
 {
     match stage {
         Stage::Empty => match command {

@@ -1,12 +1,9 @@
-ghost use Rattle.std.specs.Prelude.{◌≡◌, ◌≤◌};
-
-use crate::run;
+use crate::run_counted;
 use kl_io::{MemSink, MemSource};
 use kl_keys::MacKeys;
-use kl_pcr::Steps;
 use std::alloc::{AllocError, Global};
 use std::marker::Brand;
-use std::sync::ledger::{Blank, Ledger};
+use std::sync::ledger::Blank;
 use std::test::*;
 
 // The three lines of a session that ends in a pass. Their bytes were made by a program apart from this one.
@@ -26,147 +23,84 @@ const DROPPED: &str = "dropped 1 keys state 3\n";
 
 const PASSED: &str = "verdict 1 pass 2 current state 5\n";
 
-/// The texts, one behind the other.
-fn joined(alloc: Global, texts: &[&str]) -> Result<Vec<u8>, AllocError> {
+/// A run, and what is expected of it.
+#[derive(Clone, Copy)]
+struct Case<'a> {
+    word: &'a str,
+    /// The pieces of the script, one behind the other.
+    script: &'a [&'a str],
+    /// The numbers of the reads, the puts and the questions that fail.
+    fails: [&'a [u64]; 3],
+    /// What is printed, in pieces.
+    printed: &'a [&'a str],
+    status: u8,
+}
+
+/// A run of the word `run` in which no call fails.
+fn plain<'a>(script: &'a [&'a str], printed: &'a [&'a str], status: u8) -> Case<'a> {
+    failing(script, [&[], &[], &[]], printed, status)
+}
+
+/// A run of the word `run`.
+fn failing<'a>(
+    script: &'a [&'a str],
+    fails: [&'a [u64]; 3],
+    printed: &'a [&'a str],
+    status: u8,
+) -> Case<'a> {
+    Case {
+        word: "run",
+        script,
+        fails,
+        printed,
+        status,
+    }
+}
+
+/// The pieces, one behind the other.
+fn joined(alloc: Global, pieces: &[&str]) -> Result<Vec<u8>, AllocError> {
     let mut all = Vec::new(alloc);
-    for text in texts {
-        all.extend_from_slice(text.as_bytes())?;
+    for piece in pieces {
+        all.extend_from_slice(piece.as_bytes())?;
     }
     Ok(all)
 }
 
-/// Runs the words over a script, where the reads, puts and questions of these numbers fail. The answer is what was
-/// printed, and the number.
-fn counted<L: Ledger>(
-    alloc: Global,
-    words: &[&str],
-    script: Vec<u8>,
-    reads: &[u64],
-    puts: &[u64],
-    asks: &[u64],
-    blank: Blank,
-) -> Result<(Vec<u8>, u8), Fail>
-    requires name { blank.name ≡ L.name }
-    requires parts { blank.parts ≡ L.parts }
-    requires some { 1 ≤ blank.parts }
-{
-    let mut owned = Vec::new(alloc);
-    for word in words {
-        owned.push(String::from_str(alloc, word)?)?;
-    }
-    let mut source = MemSource::new(alloc, script, reads)?;
+/// Whether a run goes as its case says.
+fn goes_so(alloc: Global, case: Case<'_>) -> Result<bool, Fail> {
+    let words = vec![in alloc; String::from_str(alloc, case.word)?]?;
+    let [reads, puts, asks] = case.fails;
+    let mut script = MemSource::new(alloc, joined(alloc, case.script)?, reads)?;
     let mut out = MemSink::new(alloc, 4096, puts)?;
     let mut keys = MacKeys::new(alloc, asks)?;
-    let mut steps = Steps::<L>::of(blank);
-    let status = run(alloc, &owned, &mut source, &mut out, &mut keys, &mut steps);
-    Ok((Vec::from_slice(alloc, out.held())?, status))
-}
-
-/// The same, under a count of its own.
-fn ran(
-    alloc: Global,
-    words: &[&str],
-    script: Vec<u8>,
-    reads: &[u64],
-    puts: &[u64],
-    asks: &[u64],
-) -> Result<(Vec<u8>, u8), Fail> {
-    counted::<Brand>(alloc, words, script, reads, puts, asks, Blank::new(1))
-}
-
-/// An object that a run is handed.
-#[derive(Clone, Copy)]
-enum Object {
-    Script,
-    Out,
-    Keys,
-}
-
-/// The session that ends in a pass, where the call of this number of one object fails.
-fn ran_failing(alloc: Global, object: Object, number: u64) -> Result<(Vec<u8>, u8), Fail> {
-    let script = joined(alloc, &[ADD, BEGIN, REPLY])?;
-    match object {
-        Object::Script => ran(alloc, &["run"], script, &[number], &[], &[]),
-        Object::Out => ran(alloc, &["run"], script, &[], &[number], &[]),
-        Object::Keys => ran(alloc, &["run"], script, &[], &[], &[number]),
-    }
+    let status = run_counted::<_, _, _, Brand>(
+        alloc,
+        &words,
+        &mut script,
+        &mut out,
+        &mut keys,
+        Blank::new(1),
+    );
+    Ok(out.held() == joined(alloc, case.printed)?.as_slice() && status == case.status)
 }
 
 #[test]
-fn a_script_prints_its_lines_up_to_the_first_that_has_no_place(
-    rt: HostRuntime,
-) -> Result<(), Fail> {
+fn scripts_print_their_lines_and_end_with_their_status(rt: HostRuntime) -> Result<(), Fail> {
     let alloc = rt.alloc();
-    let cases: [(&[&str], &[&str], u8); 9] = [
-        (&[], &[], 0),
-        (&[ADD, BEGIN, REPLY], &[INSTALLED, POLLED, PASSED], 0),
-        (&[ADD, BEGIN], &[INSTALLED, POLLED], 0),
-        (&[BEGIN], &["fault line 1\n"], 3),
-        (&[ADD, "\n"], &[INSTALLED, "fault line 2\n"], 3),
-        (&[ADD, "begin b1 n1\n"], &[INSTALLED, "fault line 2\n"], 3),
-        (&[ADD, "begin a1 n1"], &[INSTALLED, "fault line 2\n"], 3),
-        (
-            &[ADD, BEGIN, "reply 1"],
-            &[INSTALLED, POLLED, "fault line 3\n"],
-            3,
-        ),
-        (
-            &[ADD, BEGIN, REPLY, BEGIN],
-            &[INSTALLED, POLLED, PASSED, "fault line 4\n"],
-            3,
-        ),
+    let session: &[&str] = &[ADD, BEGIN, REPLY];
+    let cases = [
+        plain(session, &[INSTALLED, POLLED, PASSED], 0),
+        plain(&[ADD, "begin a1 n1"], &[INSTALLED, "fault line 2\n"], 3),
+        failing(session, [&[2], &[], &[]], &[INSTALLED, POLLED, PASSED], 4),
+        failing(session, [&[], &[3], &[]], &[INSTALLED, POLLED], 5),
+        failing(session, [&[], &[], &[1]], &[INSTALLED, POLLED, DROPPED], 0),
+        Case {
+            word: "ran",
+            ..plain(session, &[], 2)
+        },
     ];
-    for (lines, texts, status) in cases {
-        let (printed, ended) = ran(alloc, &["run"], joined(alloc, lines)?, &[], &[], &[])?;
-        assert_eq!(rt; printed.as_slice(), joined(alloc, texts)?.as_slice());
-        assert_eq!(rt; ended, status);
+    for case in cases {
+        assert!(rt; goes_so(alloc, case)?);
     }
-    Ok(())
-}
-
-#[test]
-fn other_words_read_and_write_nothing(rt: HostRuntime) -> Result<(), Fail> {
-    let alloc = rt.alloc();
-    let cases: [&[&str]; 3] = [&[], &["run", "x"], &["ran"]];
-    for words in cases {
-        let (printed, ended) = ran(alloc, words, joined(alloc, &[ADD])?, &[], &[], &[])?;
-        assert_eq!(rt; printed.len(), 0);
-        assert_eq!(rt; ended, 2);
-    }
-    Ok(())
-}
-
-#[test]
-fn a_line_that_is_too_long_has_no_place(rt: HostRuntime) -> Result<(), Fail> {
-    let alloc = rt.alloc();
-    let line = vec![in alloc; b'#'; 16_777_217]?;
-    let (printed, ended) = ran(alloc, &["run"], line, &[], &[], &[])?;
-    assert_eq!(rt; printed.as_slice(), b"fault line 1\n".as_slice());
-    assert_eq!(rt; ended, 3);
-    Ok(())
-}
-
-/// Whether that session prints these texts and ends with this number.
-fn fails_as(
-    alloc: Global,
-    object: Object,
-    number: u64,
-    texts: &[&str],
-    status: u8,
-) -> Result<bool, Fail> {
-    let (printed, ended) = ran_failing(alloc, object, number)?;
-    let expected = joined(alloc, texts)?;
-    Ok(printed.as_slice() == expected.as_slice() && ended == status)
-}
-
-#[test]
-fn each_object_fails_in_turn(rt: HostRuntime) -> Result<(), Fail> {
-    let alloc = rt.alloc();
-    assert!(rt; fails_as(alloc, Object::Script, 1, &[], 4)?);
-    assert!(rt; fails_as(alloc, Object::Script, 2, &[INSTALLED, POLLED, PASSED], 4)?);
-    assert!(rt; fails_as(alloc, Object::Out, 1, &[], 5)?);
-    assert!(rt; fails_as(alloc, Object::Out, 2, &[INSTALLED], 5)?);
-    assert!(rt; fails_as(alloc, Object::Out, 3, &[INSTALLED, POLLED], 5)?);
-    assert!(rt; fails_as(alloc, Object::Keys, 1, &[INSTALLED, POLLED, DROPPED], 0)?);
     Ok(())
 }

@@ -1,14 +1,16 @@
 //! One turn of a session, and all of them.
 
-ghost use Rattle.std.specs.Prelude.{◌≡◌, ◌⊎◌, ◌≤◌, ◌<◌, ◌+◌, ◌++◌, ◌∷◌, ◌≢◌, [], Err, Ok, IfOk, IfErr, OnOk, OnErr, string_bytes, List, ℕ, length};
+ghost use Rattle.std.specs.Prelude.{◌≡◌, ◌⊎◌, ◌≤◌, ◌++◌, ◌∷◌, ◌≢◌, [], Err, IfOk, IfErr, IsErr, OnOk, OnErr, string_bytes, List, ℕ, length};
 ghost use Rattle.std.specs.declared.option.Option.{Option};
 ghost use Rattle.std.specs.Io.KnownBytes.{Appends};
-ghost use Rattle.kl_io.specs.Causes.{AppendsFront, HasCause, Rose};
+ghost use Rattle.kl_io.specs.Told.{AppendsFront};
+ghost use Rattle.kl_console.specs.Calls.{FailsAtLast, count_after};
 ghost use Rattle.kl_console.specs.Lines.{line_limit, IsLine};
 ghost use Rattle.kl_console.specs.Session.{Does, IsNoCommand};
-ghost use Rattle.kl_console.specs.Stages.{stage_of};
-ghost use Rattle.kl_console.specs.Run.{Asks, Costs, Ran};
-ghost use Rattle.kl_console.specs.Turns.{Answered, Complains, Ends, LineAsks, LineCosts, TurnAsks, Turns};
+ghost use Rattle.kl_console.specs.Run.{moment};
+ghost use Rattle.kl_console.specs.Replies.{HasReply, IsAsked, IsMeasured};
+ghost use Rattle.kl_console.specs.Inner.Stages.{stage_of};
+ghost use Rattle.kl_console.specs.Inner.Turns.{Answered, Complains, Ends, IsReplyLine, ReadsReply, Turns, puts_of};
 
 use crate::line_reader::{Found, LineReader, ReadError};
 use crate::session::{Stage, Stop, obey};
@@ -37,11 +39,12 @@ pub enum End {
 
 /// Writes a text.
 fn print<K: Sink>(out: &mut K, text: &str) -> Result<(), End>
-    ensures whole { OnOk result (Appends (K.held out.old) (K.held out.new) text.now) }
-    ensures front { OnErr result (AppendsFront (K.held out.old) (K.held out.new) text.now) }
+    ensures whole { OnOk result (Appends (K.told out.old).held (K.told out.new).held text.now) }
+    ensures front { OnErr result (AppendsFront (K.told out.old).held (K.told out.new).held text.now) }
     ensures error { IfErr result (λ e. e ≡ End.WriteFault) }
-    ensures cause { HasCause (K.fault_count out.old) (K.fault_count out.new) result }
-    ensures place { K.place out.new ≡ K.place out.old }
+    ensures once { (K.told out.new).calls.made ≡ count_after 1 (K.told out.old).calls.made }
+    ensures failed { FailsAtLast (K.told out.old).calls (K.told out.new).calls (IsErr result) }
+    ensures place { (K.told out.new).place ≡ (K.told out.old).place }
 {
     match out.put(text.as_bytes()) {
         Ok(()) => Ok(()),
@@ -51,10 +54,10 @@ fn print<K: Sink>(out: &mut K, text: &str) -> Result<(), End>
 
 /// Writes that the line of this number is no command of its place.
 fn complain<K: Sink>(alloc: Global, number: u64, out: &mut K) -> End
-    ensures written { Complains (K.held out.old) (K.held out.new) number result }
-    ensures count { K.fault_count out.old ≤ K.fault_count out.new }
-    ensures cause { result ≡ End.WriteFault → Rose (K.fault_count out.old) (K.fault_count out.new) }
-    ensures place { K.place out.new ≡ K.place out.old }
+    ensures written { Complains (K.told out.old).held (K.told out.new).held number result }
+    ensures puts { (K.told out.new).calls.made ≡ count_after (puts_of (Err result)) (K.told out.old).calls.made }
+    ensures failed { FailsAtLast (K.told out.old).calls (K.told out.new).calls (result ≡ End.WriteFault) }
+    ensures place { (K.told out.new).place ≡ (K.told out.old).place }
 {
     let Ok(text) = fault_line(alloc, number) else {
         return End::Memory;
@@ -75,18 +78,16 @@ fn execute<Y: Keys, L: Ledger>(
     steps: &mut Steps<L>,
 ) -> Result<(Stage, String), Stop>
     requires { length reader.old.line ≤ line_limit }
-    ensures done { IfOk result (λ done. Does (record {
-      told = Y.told keys.old;
-      before = Y.fault_count keys.old;
-      after = Y.fault_count keys.new;
-    })
-        (stage_of stage) reader.old.line (stage_of done.0) (string_bytes done.1)) }
-    ensures none { result ≡ Err Stop.NoCommand → IsNoCommand (stage_of stage) reader.old.line }
+    ensures done { IfOk result (λ done. Does (Y.told keys.old) (Y.told keys.new) (stage_of stage) reader.old.line
+        (stage_of done.0) (string_bytes done.1)) }
+    ensures none { result ≡ Err Stop.NoCommand → (keys.new ≡ keys.old) × IsNoCommand (stage_of stage) reader.old.line }
     ensures ahead { reader.new.ahead ≡ reader.old.ahead }
-    ensures asked { (keys.new ≡ keys.old) ⊎ LineAsks (stage_of stage) reader.old.line }
-    ensures told { Y.told keys.new ≡ Y.told keys.old }
-    ensures count { Y.fault_count keys.old ≤ Y.fault_count keys.new }
-    ensures cost { LineCosts (stage_of stage) reader.old.line steps.old steps.new }
+    ensures asked { (keys.new ≡ keys.old)
+        ⊎ IsReplyLine reader.old.line (IsAsked (Y.told keys.old) (Y.told keys.new) (stage_of stage)) }
+    ensures told { (Y.told keys.new).relations ≡ (Y.told keys.old).relations }
+    ensures count { (Y.told keys.old).calls.faults ≤ (Y.told keys.new).calls.faults }
+    ensures cost { (steps.new ≡ steps.old)
+        ⊎ IsReplyLine reader.old.line (IsMeasured (Y.told keys.old).relations steps.old steps.new (stage_of stage)) }
 {
     match read_command(alloc, reader.line()) {
         Ok(command) => {
@@ -110,21 +111,21 @@ fn turn<S: Source, K: Sink, Y: Keys, L: Ledger>(
     keys: &mut Y,
     steps: &mut Steps<L>,
 ) -> Result<Stage, End>
-    ensures turns { Turns (record {
-      told = Y.told keys.old;
-      before = Y.fault_count keys.old;
-      after = Y.fault_count keys.new;
-    })
-        number (stage_of stage) (S.left script.old) (S.left script.new) (K.held out.old) (K.held out.new)
-        reader.old.ahead reader.new.ahead steps.old steps.new result }
-    ensures read { result ≡ Err End.ReadFault → Rose (S.fault_count script.old) (S.fault_count script.new) }
-    ensures write { result ≡ Err End.WriteFault → Rose (K.fault_count out.old) (K.fault_count out.new) }
-    ensures asked { (keys.new ≡ keys.old) ⊎ TurnAsks (stage_of stage) (S.left script.old) (S.left script.new) reader.old.ahead }
-    ensures told { Y.told keys.new ≡ Y.told keys.old }
-    ensures counts { (S.fault_count script.old ≤ S.fault_count script.new)
-        × (K.fault_count out.old ≤ K.fault_count out.new)
-        × (Y.fault_count keys.old ≤ Y.fault_count keys.new) }
-    ensures places { (S.place script.new ≡ S.place script.old) × (K.place out.new ≡ K.place out.old) }
+    ensures turns { Turns number (stage_of stage) reader.old.ahead reader.new.ahead
+        (moment (S.told script.old) (K.told out.old) (Y.told keys.old))
+        (moment (S.told script.new) (K.told out.new) (Y.told keys.new)) result }
+    ensures read { FailsAtLast (S.told script.old).calls (S.told script.new).calls (result ≡ Err End.ReadFault) }
+    ensures write { FailsAtLast (K.told out.old).calls (K.told out.new).calls (result ≡ Err End.WriteFault) }
+    ensures asked { (keys.new ≡ keys.old)
+        ⊎ ReadsReply (S.told script.old).left (S.told script.new).left reader.old.ahead
+        (IsAsked (Y.told keys.old) (Y.told keys.new) (stage_of stage)) }
+    ensures cost { (steps.new ≡ steps.old)
+        ⊎ ReadsReply (S.told script.old).left (S.told script.new).left reader.old.ahead
+        (IsMeasured (Y.told keys.old).relations steps.old steps.new (stage_of stage)) }
+    ensures told { (Y.told keys.new).relations ≡ (Y.told keys.old).relations }
+    ensures count { (Y.told keys.old).calls.faults ≤ (Y.told keys.new).calls.faults }
+    ensures places { ((S.told script.new).place ≡ (S.told script.old).place)
+        × ((K.told out.new).place ≡ (K.told out.old).place) }
 {
     match reader.next(script) {
         Ok(Found::Line) => answer(alloc, stage, number, reader, out, keys, steps),
@@ -137,11 +138,11 @@ fn turn<S: Source, K: Sink, Y: Keys, L: Ledger>(
 
 /// Ends the session where the script ended, behind these bytes without a newline.
 fn finish<K: Sink>(alloc: Global, number: u64, reader: &LineReader, out: &mut K) -> End
-    ensures done { reader.now.line ≡ [] → (result ≡ End.Done) × (K.held out.new ≡ K.held out.old) }
-    ensures bad { reader.now.line ≢ [] → Complains (K.held out.old) (K.held out.new) number result }
-    ensures count { K.fault_count out.old ≤ K.fault_count out.new }
-    ensures cause { result ≡ End.WriteFault → Rose (K.fault_count out.old) (K.fault_count out.new) }
-    ensures place { K.place out.new ≡ K.place out.old }
+    ensures done { reader.now.line ≡ [] → (result ≡ End.Done) × ((K.told out.new).held ≡ (K.told out.old).held) }
+    ensures bad { reader.now.line ≢ [] → Complains (K.told out.old).held (K.told out.new).held number result }
+    ensures puts { (K.told out.new).calls.made ≡ count_after (puts_of (Err result)) (K.told out.old).calls.made }
+    ensures failed { FailsAtLast (K.told out.old).calls (K.told out.new).calls (result ≡ End.WriteFault) }
+    ensures place { (K.told out.new).place ≡ (K.told out.old).place }
 {
     if reader.line().is_empty() {
         return End::Done;
@@ -160,21 +161,18 @@ fn answer<K: Sink, Y: Keys, L: Ledger>(
     steps: &mut Steps<L>,
 ) -> Result<Stage, End>
     requires { IsLine reader.old.line }
-    ensures answered { (left : Option (List ℕ)) → Answered (record {
-      told = Y.told keys.old;
-      before = Y.fault_count keys.old;
-      after = Y.fault_count keys.new;
-    })
-        number left (stage_of stage) (reader.old.line ++ 10 ∷ reader.old.ahead) reader.new.ahead
-        (K.held out.old) (K.held out.new) result }
-    ensures cost { LineCosts (stage_of stage) reader.old.line steps.old steps.new }
-    ensures write { result ≡ Err End.WriteFault → Rose (K.fault_count out.old) (K.fault_count out.new) }
-    ensures asked { (keys.new ≡ keys.old) ⊎ LineAsks (stage_of stage) reader.old.line }
-    ensures told { Y.told keys.new ≡ Y.told keys.old }
+    ensures answered { (left : Option (List ℕ)) → Answered (Y.told keys.old) (Y.told keys.new) number left (stage_of stage)
+        (reader.old.line ++ 10 ∷ reader.old.ahead) reader.new.ahead (K.told out.old).held (K.told out.new).held result }
+    ensures puts { (K.told out.new).calls.made ≡ count_after (puts_of result) (K.told out.old).calls.made }
+    ensures write { FailsAtLast (K.told out.old).calls (K.told out.new).calls (result ≡ Err End.WriteFault) }
+    ensures asked { (keys.new ≡ keys.old)
+        ⊎ IsReplyLine reader.old.line (IsAsked (Y.told keys.old) (Y.told keys.new) (stage_of stage)) }
+    ensures cost { (steps.new ≡ steps.old)
+        ⊎ IsReplyLine reader.old.line (IsMeasured (Y.told keys.old).relations steps.old steps.new (stage_of stage)) }
+    ensures told { (Y.told keys.new).relations ≡ (Y.told keys.old).relations }
+    ensures count { (Y.told keys.old).calls.faults ≤ (Y.told keys.new).calls.faults }
     ensures no_read { result ≢ Err End.ReadFault }
-    ensures keys_count { Y.fault_count keys.old ≤ Y.fault_count keys.new }
-    ensures out_count { K.fault_count out.old ≤ K.fault_count out.new }
-    ensures place { K.place out.new ≡ K.place out.old }
+    ensures place { (K.told out.new).place ≡ (K.told out.old).place }
 {
     match execute(alloc, stage, reader, keys, steps) {
         Ok((next, text)) => match print(out, text.as_str()) {
@@ -194,28 +192,20 @@ pub fn play<S: Source, K: Sink, Y: Keys, L: Ledger>(
     keys: &mut Y,
     steps: &mut Steps<L>,
 ) -> End
-    ensures ends { Ends (record {
-      told = Y.told keys.old;
-      before = Y.fault_count keys.old;
-      after = Y.fault_count keys.new;
-    })
-        (S.left script.old) (S.left script.new) (K.held out.old) (K.held out.new) result }
-    ensures cost { Ran (S.left script.old) (S.left script.new) (K.held out.old) (K.held out.new) (Costs
-        (record { told = Y.told keys.old; before = Y.fault_count keys.old; after = Y.fault_count keys.new })
-        steps.old steps.new) }
-    ensures read { result ≡ End.ReadFault → Rose (S.fault_count script.old) (S.fault_count script.new) }
-    ensures write { result ≡ End.WriteFault → Rose (K.fault_count out.old) (K.fault_count out.new) }
-    ensures asked { (keys.new ≡ keys.old) ⊎ Asks (record {
-      told = Y.told keys.old;
-      before = Y.fault_count keys.old;
-      after = Y.fault_count keys.new;
-    })
-        (S.left script.old) (S.left script.new) (K.held out.old) (K.held out.new) }
-    ensures told { Y.told keys.new ≡ Y.told keys.old }
-    ensures counts { (S.fault_count script.old ≤ S.fault_count script.new)
-        × (K.fault_count out.old ≤ K.fault_count out.new)
-        × (Y.fault_count keys.old ≤ Y.fault_count keys.new) }
-    ensures places { (S.place script.new ≡ S.place script.old) × (K.place out.new ≡ K.place out.old) }
+    ensures ends { Ends (moment (S.told script.old) (K.told out.old) (Y.told keys.old))
+        (moment (S.told script.new) (K.told out.new) (Y.told keys.new)) result }
+    ensures read { FailsAtLast (S.told script.old).calls (S.told script.new).calls (result ≡ End.ReadFault) }
+    ensures write { FailsAtLast (K.told out.old).calls (K.told out.new).calls (result ≡ End.WriteFault) }
+    ensures asked { (keys.new ≡ keys.old) ⊎ HasReply (moment (S.told script.old) (K.told out.old) (Y.told keys.old))
+        (moment (S.told script.new) (K.told out.new) (Y.told keys.new))
+        (IsAsked (Y.told keys.old) (Y.told keys.new)) }
+    ensures cost { (steps.new ≡ steps.old) ⊎ HasReply (moment (S.told script.old) (K.told out.old) (Y.told keys.old))
+        (moment (S.told script.new) (K.told out.new) (Y.told keys.new))
+        (IsMeasured (Y.told keys.old).relations steps.old steps.new) }
+    ensures told { (Y.told keys.new).relations ≡ (Y.told keys.old).relations }
+    ensures count { (Y.told keys.old).calls.faults ≤ (Y.told keys.new).calls.faults }
+    ensures places { ((S.told script.new).place ≡ (S.told script.old).place)
+        × ((K.told out.new).place ≡ (K.told out.old).place) }
 {
     let Ok(mut reader) = LineReader::new(alloc) else {
         return End::Memory;

@@ -1,19 +1,19 @@
-//! That what was read has one output.
+//! That a script prints one text.
 
-ghost use Rattle.std.specs.Prelude.{◌≡◌, List, Option, ℕ};
-ghost use Rattle.kl_console.specs.Session.{KeyLog};
-ghost use Rattle.kl_console.specs.Run.{IsDone, IsFaulty, IsSteady};
+ghost use Rattle.std.specs.Prelude.{◌≡◌, List, ℕ};
+ghost use Rattle.kl_keys.specs.Relations.{Relations};
+ghost use Rattle.kl_console.specs.Unique.{Prints};
 
-/// The bytes that a run read decide what it writes with status 0, what it writes with status 3, and which of the two it is,
-/// where the key object tells its answers and its count of faults did not rise. So two runs that read the same bytes, and end
-/// with 0 or 3, wrote the same.
+/// Two runs over the same script end with the same status and write the same, where each ends with 0 or 3, its source tells
+/// its bytes, its output tells what it holds, and its key object tells the same relations and meets no fault. The script is
+/// all that the source had left when the run began; how far each run read ahead does not count, nor how the source cut its
+/// bytes, and neither do memory and the faults that a run met before.
+///
+/// It rests on what `run` says of its statuses 0 and 3 (`done`, `fault`) alone: that a run ends with 0 or 3 is not said.
 ///
 /// The function does nothing: its contract is the theorem.
 pub fn one_output()
-    ensures done { (keys : KeyLog) (left : Option (List ℕ)) (consumed first second : List ℕ) → IsSteady keys
-        → IsDone keys left consumed first → IsDone keys left consumed second → first ≡ second }
-    ensures fault { (keys : KeyLog) (left : Option (List ℕ)) (consumed first second : List ℕ) → IsSteady keys
-        → IsFaulty keys left consumed first → IsFaulty keys left consumed second → first ≡ second }
-    ensures either { (keys : KeyLog) (left : Option (List ℕ)) (consumed first second : List ℕ) → IsSteady keys
-        → IsDone keys left consumed first → ¬ (IsFaulty keys left consumed second) }
+    ensures one { (script : List ℕ) (relations : Relations) (status status' : ℕ) (written written' : List ℕ)
+        → Prints script relations status written → Prints script relations status' written'
+        → (status ≡ status') × (written ≡ written') }
 {}

@@ -1,4 +1,5 @@
 use Rattle.keylime.proofs.main.Given as goal
 
-abbrev pub ghosts-run_from : goal.ghosts-run_from
-ghosts-run_from a = record { name = a.blank.name; parts = a.blank.parts }
+-- the count is that of the blank
+abbrev pub ghosts-start : goal.ghosts-start
+ghosts-start a = record { name = a.blank.name; parts = a.blank.parts }

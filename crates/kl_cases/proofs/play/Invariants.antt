@@ -1,4 +1,4 @@
 use Rattle.kl_cases.proofs.play.Given as goal
 
-abbrev pub ghosts-run_from : goal.ghosts-run_from
-ghosts-run_from g a = record { name = a.blank.name; parts = a.blank.parts }
+abbrev pub ghosts-run_alone : goal.ghosts-run_alone
+ghosts-run_alone g a = record { name = a.blank.name; parts = a.blank.parts }

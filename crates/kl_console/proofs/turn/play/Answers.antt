@@ -1,60 +1,67 @@
-use Rattle.std.proofs.Common.{ℕ, List, Ok, Err, refl, sym, subst, ◌∙◌, inl, arith}
-use Rattle.kl_console.specs.Session.{Empty}
-use Rattle.kl_console.proofs.Playing.{Played, log, played_start, turn_after, asked_after, end_after, ends_at_once, costs_at_once, turn_ranks}
+use Rattle.std.proofs.Common.{Option, Ok, Err, refl, subst, ap, ◌∙◌, inl, arith}
+use Rattle.kl_console.specs.Replies.{IsAsked, IsMeasured}
+use Rattle.kl_console.specs.Inner.Stages.{stage_of}
+use Rattle.kl_console.proofs.Failing.{fails_as, fails_behind, not_err, of_err}
+use Rattle.kl_console.proofs.Playing.{IsAsked-polled, asked_after, cost_after, played_start, played_turn, played_end, ends_at_once, unasked_after, unspent_after, turn_ranks}
 use Rattle.kl_console.proofs.turn.play.Goals as goal
 
 pub returns-in_default-clause-ends : goal.returns-in_default-clause-ends
-returns-in_default-clause-ends g c = ends_at_once _ _ _
-
-pub returns-in_default-clause-cost : goal.returns-in_default-clause-cost
-returns-in_default-clause-cost g c = costs_at_once _ _ _ _
+returns-in_default-clause-ends g c = ends_at_once _
 
 pub turns-init : goal.turns-init
 turns-init g c = record {
-  played =
-      let keys = c.args.keys.now in
-      let left = g.S.Source.left c.args.script.now in
-      let held = g.K.Sink.held c.args.out.now in
-      let steps = c.args.steps.now in
-      let started = played_start (log (g.Y.Keys.told keys) (g.Y.Keys.fault_count keys) (g.Y.Keys.fault_count keys)) left held steps in
-      subst (λ (ahead : List ℕ). Played (log (g.Y.Keys.told keys) (g.Y.Keys.fault_count keys) (g.Y.Keys.fault_count keys)) left left held held steps steps ahead Empty 1) (sym c.in-Ok.ensures.ahead) started;
+  played = played_start _ _ c.in-Ok.ensures.ahead;
+  unasked = λ _. refl;
+  unspent = λ _. refl;
   asked = inl refl;
+  cost = inl refl;
   told = refl;
   keys_count = omega arith;
-  script_count = omega arith;
-  out_count = omega arith;
+  read = refl;
+  written = refl;
   script_place = refl;
   out_place = refl;
 }
 
 pub returns-in-Err-clause-ends : goal.returns-in-Err-clause-ends
-returns-in-Err-clause-ends g c =
-    let i = c.turns.invariant in
-    (end_after _ _ _ _ _ _ _ _ _ _ _ _ _ _ _ c.turn.new.reader.ahead _ _ c.in-Err.end i.told i.keys_count c.turn.ensures.counts.2 i.played c.in-Err.ensures.turns).0
+returns-in-Err-clause-ends g c = played_end _ _ _ _ _ _ _ c.in-Err.end c.turns.invariant.played c.in-Err.ensures.turns
 
-pub returns-in-Err-clause-cost : goal.returns-in-Err-clause-cost
-returns-in-Err-clause-cost g c =
-    let i = c.turns.invariant in
-    (end_after _ _ _ _ _ _ _ _ _ _ _ _ _ _ _ c.turn.new.reader.ahead _ _ c.in-Err.end i.told i.keys_count c.turn.ensures.counts.2 i.played c.in-Err.ensures.turns).1
+pub returns-in-Err-clause-read : goal.returns-in-Err-clause-read
+returns-in-Err-clause-read g c =
+    fails_as _ _ _ _ (λ e. of_err (Err c.in-Err.end) _ _ refl e) (λ e. ap Err e) (fails_behind _ _ _ _ c.turns.invariant.read c.in-Err.ensures.read)
+
+pub returns-in-Err-clause-write : goal.returns-in-Err-clause-write
+returns-in-Err-clause-write g c =
+    fails_as _ _ _ _ (λ e. of_err (Err c.in-Err.end) _ _ refl e) (λ e. ap Err e) (fails_behind _ _ _ _ c.turns.invariant.written c.in-Err.ensures.write)
 
 pub returns-in-Err-clause-asked : goal.returns-in-Err-clause-asked
 returns-in-Err-clause-asked g c =
     let i = c.turns.invariant in
-    asked_after _ _ _ _ _ _ _ _ _ _ _ _ _ _ _ _ _ _ c.turn.new.reader.ahead _ _ (Err c.in-Err.end) c.turn.ensures.counts.2 i.asked i.played c.in-Err.ensures.turns c.turn.ensures.asked
+    asked_after g.Y.Keys.told _ _ c.turn.new.keys _ _ _ _ _ _ _ _ i.played c.in-Err.ensures.turns i.unasked i.asked c.turn.ensures.asked
+
+pub returns-in-Err-clause-cost : goal.returns-in-Err-clause-cost
+returns-in-Err-clause-cost g c =
+    let i = c.turns.invariant in
+    cost_after _ _ _ _ c.turn.new.steps _ _ _ _ _ _ _ _ i.told i.played c.in-Err.ensures.turns i.unspent i.cost c.turn.ensures.cost
 
 pub turns-smaller : goal.turns-smaller
-turns-smaller g c = turn_ranks _ c.turns.number _ _ _ _ _ _ _ _ _ c.in-Ok-turn.next c.in-Ok-turn.ensures.turns
+turns-smaller g c = turn_ranks _ _ _ _ _ _ c.in-Ok-turn.next c.in-Ok-turn.ensures.turns
 
 pub turns-preserved : goal.turns-preserved
 turns-preserved g c =
     let i = c.turns.invariant in
+    let turns = c.in-Ok-turn.ensures.turns in
+    let next = c.in-Ok-turn.next in
     record {
-      played = turn_after _ _ _ _ _ _ _ _ _ _ _ _ _ _ _ _ _ _ c.in-Ok-turn.next i.told i.keys_count c.turn.ensures.counts.2 i.played c.in-Ok-turn.ensures.turns;
-      asked = asked_after _ _ _ _ _ _ _ _ _ _ _ _ _ _ _ _ _ _ c.turn.new.reader.ahead _ _ (Ok c.in-Ok-turn.next) c.turn.ensures.counts.2 i.asked i.played c.in-Ok-turn.ensures.turns c.turn.ensures.asked;
+      played = played_turn _ _ _ _ _ _ _ next i.played turns;
+      unasked = unasked_after g.Y.Keys.told _ _ c.turn.new.keys _ _ _ _ _ _ next turns i.unasked c.turn.ensures.asked;
+      unspent = unspent_after _ _ _ c.turn.new.steps _ _ _ _ _ _ next turns i.unspent c.turn.ensures.cost;
+      asked = asked_after g.Y.Keys.told _ _ c.turn.new.keys _ _ _ _ _ _ _ _ i.played turns i.unasked i.asked c.turn.ensures.asked;
+      cost = cost_after _ _ _ _ c.turn.new.steps _ _ _ _ _ _ _ _ i.told i.played turns i.unspent i.cost c.turn.ensures.cost;
       told = c.turn.ensures.told ∙ i.told;
-      keys_count = omega (arith, i.keys_count, c.turn.ensures.counts.2);
-      script_count = omega (arith, i.script_count, c.turn.ensures.counts.0);
-      out_count = omega (arith, i.out_count, c.turn.ensures.counts.1);
+      keys_count = omega (arith, i.keys_count, c.turn.ensures.count);
+      read = c.in-Ok-turn.ensures.read.unmet (not_err (Ok next) _ _ refl) ∙ i.read;
+      written = c.in-Ok-turn.ensures.write.unmet (not_err (Ok next) _ _ refl) ∙ i.written;
       script_place = c.turn.ensures.places.0 ∙ i.script_place;
       out_place = c.turn.ensures.places.1 ∙ i.out_place;
     }

@@ -1,5 +1,5 @@
 use Rattle.std.proofs.Common.{ap}
-use Rattle.kl_console.proofs.Turns.{reads_primed}
+use Rattle.kl_console.proofs.Gathering.{reads_primed}
 use Rattle.kl_console.proofs.line_reader.LineReader.next.Goals as goal
 
 pub returns-clause-reads : goal.returns-clause-reads

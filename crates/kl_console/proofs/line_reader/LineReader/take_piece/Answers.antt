@@ -1,7 +1,6 @@
-use Rattle.std.proofs.Common.{◌≡◌, ◌≢◌, ◌-◌, ◌+◌, ◌<◌, drop, length-take, ap, arith}
-use Rattle.std.proofs.lemmas.List.Elements.{All-append}
-use Rattle.kl_console.specs.Lines.{HasNoNewline}
-use Rattle.kl_console.proofs.Pieces.{rest_of_part, newline_moved}
+use Rattle.std.proofs.Common.{◌≡◌, ◌-◌, ◌+◌, ◌<◌, drop, length-take, ap, arith}
+use Rattle.kl_entry.specs.Lines.{HasNo}
+use Rattle.kl_console.proofs.Pieces.{HasNo-append, newline_moved, rest_of_part}
 use Rattle.kl_console.proofs.line_reader.LineReader.take_piece.Goals as goal
 
 pub returns-in_ok-extend_from_slice-in-Some-clause-bytes :
@@ -17,9 +16,9 @@ returns-in_ok-extend_from_slice-in-Some-clause-bytes c =
 pub returns-in_ok-extend_from_slice-in-Some-clause-no_newline :
     goal.returns-in_ok-extend_from_slice-in-Some-clause-no_newline
 returns-in_ok-extend_from_slice-in-Some-clause-no_newline c = λ none.
-    rw c.in_ok-extend_from_slice-in-Some.ensures.items (let own : HasNoNewline c.self.inside.line.items = rw (ap (λ r. r.line) c.self.view_is) none in All-append (λ b. b ≢ 10) _ _ own c.in-Some.ensures.found.before)
+    rw c.in_ok-extend_from_slice-in-Some.ensures.items (let own : HasNo 10 c.self.inside.line.items = rw (ap (λ r. r.line) c.self.view_is) none in HasNo-append 10 _ _ own c.in-Some.ensures.found.before)
 
 pub returns-in_ok-extend_from_slice-in-None-clause-no_newline :
     goal.returns-in_ok-extend_from_slice-in-None-clause-no_newline
 returns-in_ok-extend_from_slice-in-None-clause-no_newline c = λ none.
-    rw c.in_ok-extend_from_slice-in-None.ensures.items (let own : HasNoNewline c.self.inside.line.items = rw (ap (λ r. r.line) c.self.view_is) none in All-append (λ b. b ≢ 10) _ _ own c.in-None.ensures.none)
+    rw c.in_ok-extend_from_slice-in-None.ensures.items (let own : HasNo 10 c.self.inside.line.items = rw (ap (λ r. r.line) c.self.view_is) none in HasNo-append 10 _ _ own c.in-None.ensures.none)

@@ -1,6 +1,6 @@
 use Rattle.std.proofs.Common.{rules}
 use Rattle.kl_console.proofs.Words.{one_word}
-use Rattle.kl_console.proofs.program.is_run.Goals as goal
+use Rattle.kl_console.proofs.program.is_only_word.Goals as goal
 
 pub returns-then-words-eq1 : goal.returns-then-words-eq1
 returns-then-words-eq1 c =

@@ -3,7 +3,7 @@ use Rattle.std.specs.Prelude.{List, ℕ, ⊤}
 use Rattle.kl_policy.specs.Flat.{IsFlatFault}
 use Rattle.kl_policy.specs.declared.fault.Limit.TheVariants.{Paths}
 use Rattle.kl_policy.specs.declared.fault.PolicyFault.TheVariants.{Line, Limit}
-use Rattle.kl_script.specs.Commands.{AddFields}
+use Rattle.kl_script.specs.declared.command.Add.{Add}
 use Rattle.kl_console.specs.Terms.{IsRefusal}
 use Rattle.kl_console.specs.declared.adding.AddFault.{AddFault}
 use Rattle.kl_console.specs.declared.adding.AddFault.TheVariants.{Refused, Memory}
@@ -18,6 +18,6 @@ IsPolicyFault text (Refused Static) = ⊥
 IsPolicyFault text Memory = ⊤
 
 -- why an add names no terms
-abbrev pub IsAddFault : AddFields → AddFault → Type 0
+abbrev pub IsAddFault : Add → AddFault → Type 0
 IsAddFault a (Refused why) = IsRefusal a why
 IsAddFault a Memory = ⊤

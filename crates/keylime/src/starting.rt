@@ -1,0 +1,136 @@
+//! What the words of the command line come to.
+
+ghost use Rattle.std.specs.Prelude.{◌≡◌, ◌≢◌, ◌≤◌, ◌∷◌, [], map, codes, string_bytes, IfOk, IfErr};
+ghost use Rattle.kl_console.specs.Run.{moment, EndsAs};
+ghost use Rattle.keylime.specs.Starting.{Says, IsOtherWords, status_without};
+
+use kl_console::{is_only_word, run_counted};
+use kl_io::{Sink, Source};
+use kl_keys::Keys;
+use std::alloc::Global;
+use std::sync::ledger::{Blank, Ledger};
+
+/// What `--help` prints.
+const HELP: &str =
+    "keylime judges what an agent's machine measured, by its TPM's quote and by a policy.
+
+usage: keylime run < script
+
+  run        reads a script, and prints a line for each line of it
+  --help     prints this text
+  --version  prints the version
+
+A script is an add, a begin and a reply. examples/ has scripts, and beside each what it prints; docs/FORMATS.md has the formats.
+
+status
+   0  the script was read to its end, and every line was executed and printed
+   2  the words are other ones; nothing was read or written
+   3  a line is not the command of its place; `fault line <n>` was written last
+   4  reading the script failed
+   5  writing failed
+  70  memory ran out
+";
+
+/// What `--version` prints.
+const VERSION: &str = "keylime 0.1.0\n";
+
+/// The status where all of a text was written.
+const DONE: u8 = 0;
+
+/// The status where the words are no command line, as where they are no text.
+const USAGE: u8 = 2;
+
+/// The status where writing failed.
+const WRITE_FAULT: u8 = 5;
+
+/// The status where memory ran out.
+const MEMORY: u8 = 70;
+
+/// Why there are no words.
+#[derive(Clone, Copy, Debug, PartialEq, Eq)]
+pub enum NoWords {
+    /// They are no text.
+    NoText,
+    /// Memory ran out.
+    Memory,
+}
+
+/// Does what the words of the command line say, where there are any, and answers the number with which the program ends.
+///
+/// `--help` and `--version`, each as the only word, are answered on the output. All other words are handed over to
+/// `kl_console::run_counted`, which knows the word `run` alone.
+pub fn start<S: Source, K: Sink, Y: Keys, L: Ledger>(
+    alloc: Global,
+    words: Result<Vec<String>, NoWords>,
+    script: &mut S,
+    out: &mut K,
+    keys: &mut Y,
+    blank: Blank,
+) -> u8
+    requires name { blank.name ≡ L.name }
+    requires parts { blank.parts ≡ L.parts }
+    requires some { 1 ≤ blank.parts }
+    ensures help { IfOk words (λ w. map string_bytes w.items ≡ codes "--help" ∷ []
+        → Says (K.told out.old) (K.told out.new) HELP.now result × (script.new ≡ script.old)) }
+    ensures version { IfOk words (λ w. map string_bytes w.items ≡ codes "--version" ∷ []
+        → Says (K.told out.old) (K.told out.new) VERSION.now result × (script.new ≡ script.old)) }
+    ensures run { IfOk words (λ w. map string_bytes w.items ≡ codes "run" ∷ []
+        → EndsAs (moment (S.told script.old) (K.told out.old) (Y.told keys.old))
+        (moment (S.told script.new) (K.told out.new) (Y.told keys.new)) result × (result ≢ 2)) }
+    ensures other { IfOk words (λ w. IsOtherWords (map string_bytes w.items) → result ≡ 2) }
+    // At 2 nothing was read, written or asked.
+    ensures unread { result ≡ 2 → script.new ≡ script.old }
+    ensures unwritten { result ≡ 2 → out.new ≡ out.old }
+    ensures unasked { result ≡ 2 → keys.new ≡ keys.old }
+    ensures none { IfErr words (λ why. (result ≡ status_without why) × (script.new ≡ script.old) × (out.new ≡ out.old)
+        × (keys.new ≡ keys.old)) }
+{
+    match words {
+        Ok(words) => answer::<_, _, _, L>(alloc, words.as_slice(), script, out, keys, blank),
+        Err(NoWords::NoText) => USAGE,
+        Err(NoWords::Memory) => MEMORY,
+    }
+}
+
+/// Does what these words say.
+fn answer<S: Source, K: Sink, Y: Keys, L: Ledger>(
+    alloc: Global,
+    words: &[String],
+    script: &mut S,
+    out: &mut K,
+    keys: &mut Y,
+    blank: Blank,
+) -> u8
+    requires name { blank.name ≡ L.name }
+    requires parts { blank.parts ≡ L.parts }
+    requires some { 1 ≤ blank.parts }
+    ensures help { map string_bytes words.now ≡ codes "--help" ∷ []
+        → Says (K.told out.old) (K.told out.new) HELP.now result × (script.new ≡ script.old) }
+    ensures version { map string_bytes words.now ≡ codes "--version" ∷ []
+        → Says (K.told out.old) (K.told out.new) VERSION.now result × (script.new ≡ script.old) }
+    ensures run { map string_bytes words.now ≡ codes "run" ∷ []
+        → EndsAs (moment (S.told script.old) (K.told out.old) (Y.told keys.old))
+        (moment (S.told script.new) (K.told out.new) (Y.told keys.new)) result × (result ≢ 2) }
+    ensures other { IsOtherWords (map string_bytes words.now) → result ≡ 2 }
+    ensures unread { result ≡ 2 → script.new ≡ script.old }
+    ensures unwritten { result ≡ 2 → out.new ≡ out.old }
+    ensures unasked { result ≡ 2 → keys.new ≡ keys.old }
+{
+    if is_only_word(words, "--help") {
+        return say(out, HELP);
+    }
+    if is_only_word(words, "--version") {
+        return say(out, VERSION);
+    }
+    run_counted::<_, _, _, L>(alloc, words, script, out, keys, blank)
+}
+
+/// Writes a text, and answers the status of that.
+fn say<K: Sink>(out: &mut K, text: &str) -> u8
+    ensures { Says (K.told out.old) (K.told out.new) text.now result }
+{
+    match out.put(text.as_bytes()) {
+        Ok(()) => DONE,
+        Err(_) => WRITE_FAULT,
+    }
+}

@@ -1,10 +1,6 @@
-pub mod Lines
-pub mod Texts
-pub mod Terms
-pub mod Session
-pub mod Script
 pub mod Calls
+pub mod Lines
+pub mod Script
 pub mod Run
-pub mod Replies
 pub mod Unique
 pub mod Inner

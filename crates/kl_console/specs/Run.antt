@@ -1,83 +1,130 @@
 -- What a run reads and writes, by how it ends.
-use Rattle.std.specs.Prelude.{◌≡◌, ◌⊎◌, ℕ, List, ◌∷◌, ◌++◌, length, Option}
+use Rattle.std.specs.Prelude.{◌≡◌, ◌⊎◌, ℕ, ◌+◌, true, List, [], ◌∷◌, ◌++◌, Contains, Option}
 use Rattle.std.specs.Io.KnownBytes.{Appends, Consumes, IsAtEnd}
+use Rattle.kl_io.specs.Calls.{n_more}
 use Rattle.kl_io.specs.Told.{SinkTold, SourceTold}
-use Rattle.kl_keys.specs.Told.{KeysTold}
-use Rattle.kl_console.specs.Calls.{FailsAtLast, count_after}
-use Rattle.kl_console.specs.Lines.{IsLine, ended}
-use Rattle.kl_console.specs.Texts.{fault_text}
-use Rattle.kl_console.specs.Session.{Stage, Does}
-use Rattle.kl_console.specs.Script.{Session, IsBad, next_number, printed}
+use Rattle.kl_script.specs.Commands.{CommandFields, Spells}
+use Rattle.kl_history.specs.Records.{History}
+use Rattle.kl_history.specs.Legal.{Legal}
+use Rattle.kl_session.specs.declared.stop.Stop.{Stop}
+use Rattle.kl_session.specs.declared.stop.Stop.TheVariants.{NoNonce, Memory}
+use Rattle.kl_session.specs.Outside.{Outside}
+use Rattle.kl_session.specs.Calls.{SessionFields}
+use Rattle.kl_session.specs.Closing.{IsEnded as EndsSession}
+use Rattle.kl_session.specs.Stopped.{IsStopped}
+use Rattle.kl_console.specs.Calls.{FailsAtLast}
+use Rattle.kl_console.specs.Lines.{IsLine, IsUnended, Comes, IsOverLimit}
+use Rattle.kl_console.specs.Script.{Executed, script_of, offset_of, printed, puts_of, puts_before, is_text, next_number, fault_line, HasNoCommand, DoesNext}
 
 -- what the objects of a run tell at a moment
 pub record Moment : Type 0 where
   pub script : SourceTold
   pub out : SinkTold
-  pub keys : KeysTold
+  pub outside : Outside
 
-abbrev pub moment : SourceTold → SinkTold → KeysTold → Moment
-moment script out keys = record { script = script; out = out; keys = keys }
+abbrev pub moment : SourceTold → SinkTold → Outside → Moment
+moment script out outside = record { script = script; out = out; outside = outside }
 
--- Between two moments the one was taken from the script, and the other was put into the output. Where an object does not
--- tell, nothing is said of its bytes.
-abbrev pub Ran : Moment → Moment → List ℕ → List ℕ → Type 0
-Ran before after consumed written = Consumes before.script.left after.script.left consumed × Appends before.out.held after.out.held written
+-- Between two moments the one was taken from the script, the other was put into the output, and there were so many puts. Where
+-- an object does not tell, nothing is said of its bytes.
+pub record Ran (before after : Moment) (consumed written : List ℕ) (puts : ℕ) : Type 0 where
+  pub read : Consumes before.script.left after.script.left consumed
+  pub wrote : Appends before.out.held after.out.held written
+  pub put : after.out.calls.made ≡ n_more puts before.out.calls.made
 
--- there were so many puts
-abbrev pub Puts : Moment → Moment → ℕ → Type 0
-Puts before after n = after.out.calls.made ≡ count_after n before.out.calls.made
+-- the history at the end is legal, and it is that of the session, with the polls that were open dropped
+pub record IsHistory (s : SessionFields) (H : History) : Type 0 where
+  pub ended : EndsSession s.history H
+  pub legal : Legal H
 
--- all of the script was read, each line was the command of its place, and all texts were written, each by one put
-abbrev pub IsDone : Moment → Moment → Type 0
-IsDone before after =
-    (s : Session before.keys after.keys) × Ran before after (ended s.lines) (printed s) × Puts before after (length s.lines)
-    × IsAtEnd after.script.left
+-- The whole script was read and executed: each of its lines has its newline,
+abbrev pub EndsWithNewline : Moment → Moment → History → Type 0
+EndsWithNewline before after H =
+    (s : Executed before.outside after.outside) × Ran before after (script_of s) (printed s) (puts_before s) × IsHistory s.last H
 
--- the texts of the lines before the first bad one were written, and which that is, each by one put
-abbrev pub IsFaulty : Moment → Moment → Type 0
-IsFaulty before after =
-    (s : Session before.keys after.keys) × (rest : List ℕ) × Ran before after (ended s.lines ++ rest) (printed s ++ fault_text (next_number s))
-    × Puts before after (next_number s) × IsBad after.script.left s.stage rest
+-- or the last one lacks it.
+abbrev pub LacksNewline : Moment → Moment → History → Type 0
+LacksNewline before after H =
+    (then : Outside) × (s : Executed before.outside then) × (next : SessionFields) × (text : List ℕ)
+    × (d : DoesNext s after.outside (IsUnended (offset_of s) after.script.left) next text)
+    × Ran before after (script_of s ++ d.line) (printed s ++ text) (puts_before s + puts_of text) × IsHistory next H
 
--- what was read ends in the midst of a line or behind one; the texts of all lines were written, each by one put
-abbrev pub IsBroken : Moment → Moment → Type 0
-IsBroken before after =
-    (s : Session before.keys after.keys) × (part : List ℕ) × Ran before after (ended s.lines ++ part) (printed s)
-    × Puts before after (length s.lines) × IsLine part
+-- 0: all of the script was read, each line was executed, and the text of each was written by one put
+abbrev pub IsDone : Moment → Moment → History → Type 0
+IsDone before after H = IsAtEnd after.script.left × (EndsWithNewline before after H ⊎ LacksNewline before after H)
 
--- the texts of lines that were read were written, each whole and by one put
-abbrev pub IsShort : Moment → Moment → Type 0
-IsShort before after =
-    (then : KeysTold) × (s : Session before.keys then) × (rest : List ℕ) × Ran before after (ended s.lines ++ rest) (printed s)
-    × Puts before after (length s.lines)
+-- the texts of the lines before a bad one were written, and by one put more which line that is
+abbrev pub Complains : Moment → Moment → History → (ℕ → Option (List ℕ) → List ℕ → Type 0) → Type 0
+Complains before after H IsBad =
+    (s : Executed before.outside after.outside) × (rest : List ℕ)
+    × Ran before after (script_of s ++ rest) (printed s ++ fault_line (next_number s)) (puts_before s + 1)
+    × IsBad (offset_of s) after.script.left rest × IsHistory s.last H
 
--- the bytes begin with a line that prints this
-abbrev pub HasLine : KeysTold → KeysTold → Stage → List ℕ → List ℕ → Type 0
-HasLine keys keys' stage bytes text =
-    (line : List ℕ) × (more : List ℕ) × (next : Stage) × (bytes ≡ line ++ 10 ∷ more) × IsLine line × Does keys keys' stage line next text
+-- 3: a line spells no command
+abbrev pub IsFaulty : Moment → Moment → History → Type 0
+IsFaulty before after H = Complains before after H HasNoCommand
 
--- what is to be printed of these bytes: the text of the line that they begin with, or that the line of this number is bad
-abbrev pub CanPrint : KeysTold → KeysTold → ℕ → Option (List ℕ) → Stage → List ℕ → List ℕ → Type 0
-CanPrint keys keys' number left stage bytes text =
-    HasLine keys keys' stage bytes text ⊎ (IsBad left stage bytes × (text ≡ fault_text number) × (keys' ≡ keys))
+-- 8: a line is too long, or the script is
+abbrev pub IsOver : Moment → Moment → History → Type 0
+IsOver before after H = Complains before after H (λ offset left rest. IsOverLimit offset rest)
 
--- the texts of the lines before were written, each by one put, and by one put more a front of what is to be printed next
-abbrev pub IsCutOff : Moment → Moment → Type 0
-IsCutOff before after =
-    (then : KeysTold) × (s : Session before.keys then) × (rest : List ℕ) × (text : List ℕ) × (front : List ℕ) × (lost : List ℕ)
-    × Ran before after (ended s.lines ++ rest) (printed s ++ front) × Puts before after (next_number s)
-    × CanPrint then after.keys (next_number s) after.script.left s.stage rest text × (text ≡ front ++ lost)
+-- 4: what was read ends in the midst of a line or behind one; the texts of the lines before were written
+abbrev pub IsBroken : Moment → Moment → History → Type 0
+IsBroken before after H =
+    (s : Executed before.outside after.outside) × (part : List ℕ) × Ran before after (script_of s ++ part) (printed s) (puts_before s)
+    × IsLine part × IsHistory s.last H
 
--- What a run comes to, by the number with which it ends; which call met a fault.
-pub record EndsAs (before after : Moment) (status : ℕ) : Type 0 where
-  pub done : status ≡ 0 → IsDone before after
-  pub fault : status ≡ 3 → IsFaulty before after
-  pub read_fault : status ≡ 4 → IsBroken before after
+-- behind the lines that were executed comes one whose command was not answered
+pub record StopsNext {o then : Outside} (s : Executed o then) (why : Stop) (o' : Outside) (left : Option (List ℕ)) (bytes : List ℕ) (next : SessionFields) : Type 0 where
+  pub line : List ℕ
+  pub next_line : Comes (offset_of s) left bytes line
+  pub command : CommandFields
+  pub spelled : Spells line command
+  pub stopped : IsStopped why then o' s.last command next
+
+-- 6: a nonce was to be drawn, and could not be; the texts of the lines before were written
+abbrev pub IsDry : Moment → Moment → History → Type 0
+IsDry before after H =
+    (then : Outside) × (s : Executed before.outside then) × (rest : List ℕ)
+    × Ran before after (script_of s ++ rest) (printed s) (puts_before s)
+    × StopsNext s NoNonce after.outside after.script.left rest s.last × IsHistory s.last H
+
+-- what is to be printed of these bytes: the text of the line that comes, or that it is bad
+abbrev pub CanPrint : {o then : Outside} → Executed o then → Outside → Option (List ℕ) → List ℕ → SessionFields → List ℕ → Type 0
+CanPrint {o} {then} s o' left bytes next text =
+    ((is_text text ≡ true) × DoesNext s o' (Comes (offset_of s) left bytes) next text)
+    ⊎ ((HasNoCommand (offset_of s) left bytes ⊎ IsOverLimit (offset_of s) bytes) × (o' ≡ then) × (next ≡ s.last) × (text ≡ fault_line (next_number s)))
+
+-- 5: the texts of the lines before were written, and by one put more a front of what is to be printed next
+abbrev pub IsCutOff : Moment → Moment → History → Type 0
+IsCutOff before after H =
+    (then : Outside) × (s : Executed before.outside then) × (rest : List ℕ) × (next : SessionFields) × (front : List ℕ) × (lost : List ℕ)
+    × Ran before after (script_of s ++ rest) (printed s ++ front) (puts_before s + 1)
+    × CanPrint s after.outside after.script.left rest next (front ++ lost) × IsHistory next H
+
+-- memory ran out between two commands, or a command was not answered for want of it
+abbrev pub RunsShort : {o then : Outside} → Executed o then → Outside → Option (List ℕ) → List ℕ → SessionFields → Type 0
+RunsShort {o} {then} s o' left bytes next = ((o' ≡ then) × (next ≡ s.last)) ⊎ StopsNext s Memory o' left bytes next
+
+-- 70: the texts of the lines before were written, each whole and by one put
+abbrev pub IsShort : Moment → Moment → History → Type 0
+IsShort before after H =
+    (then : Outside) × (s : Executed before.outside then) × (rest : List ℕ) × (next : SessionFields)
+    × Ran before after (script_of s ++ rest) (printed s) (puts_before s)
+    × RunsShort s after.outside after.script.left rest next × IsHistory next H
+
+-- What a run comes to, by the number with which it ends, and the history at its end; which call met a fault.
+pub record EndsAs (before after : Moment) (status : ℕ) (H : History) : Type 0 where
+  pub done : status ≡ 0 → IsDone before after H
+  pub fault : status ≡ 3 → IsFaulty before after H
+  pub read_fault : status ≡ 4 → IsBroken before after H
   pub read_cause : FailsAtLast before.script.calls after.script.calls (status ≡ 4)
-  pub write_fault : status ≡ 5 → IsCutOff before after
+  pub write_fault : status ≡ 5 → IsCutOff before after H
   pub write_cause : FailsAtLast before.out.calls after.out.calls (status ≡ 5)
-  pub memory : status ≡ 70 → IsShort before after
+  pub nonce_fault : status ≡ 6 → IsDry before after H
+  pub over : status ≡ 8 → IsOver before after H
+  pub memory : status ≡ 70 → IsShort before after H
 
 -- the numbers with which a run ends
 abbrev pub IsStatus : ℕ → Type 0
-IsStatus n = (n ≡ 0) ⊎ ((n ≡ 2) ⊎ ((n ≡ 3) ⊎ ((n ≡ 4) ⊎ ((n ≡ 5) ⊎ (n ≡ 70)))))
+IsStatus n = Contains (0 ∷ 2 ∷ 3 ∷ 4 ∷ 5 ∷ 6 ∷ 8 ∷ 70 ∷ []) n

@@ -1,47 +1,69 @@
--- The bytes of a script, as far as a session has come. What a line does is said elsewhere.
-use Rattle.std.specs.Prelude.{◌≡◌, ◌≢◌, ◌⊎◌, ℕ, ◌+◌, List, [], ◌∷◌, ◌++◌, length, All, Option}
-use Rattle.std.specs.List.{concat}
-use Rattle.std.specs.Io.KnownBytes.{IsAtEnd}
-use Rattle.kl_keys.specs.Told.{KeysTold}
-use Rattle.kl_console.specs.Lines.{IsLine, IsTooLong}
-use Rattle.kl_console.specs.Session.{Stage, Empty, Does, IsNoCommand}
+-- A script as far as it was executed: its lines, the commands that they spell, and what these printed.
+use Rattle.std.specs.Prelude.{◌≡◌, ◌⊎◌, ℕ, ◌+◌, ◌≤◌, Bool, true, false, List, [], ◌∷◌, ◌++◌, length, All, count_by, if◌then◌else◌, Option, codes, decimal}
+use Rattle.std.specs.List.{concat, AllZip}
+use Rattle.kl_script.specs.Commands.{CommandFields, nothing, Spells}
+use Rattle.kl_session.specs.Outside.{Outside}
+use Rattle.kl_session.specs.Calls.{SessionFields, empty}
+use Rattle.kl_session.specs.Session.{Does, Follows}
+use Rattle.kl_session.specs.Texts.{newline}
+use Rattle.kl_console.specs.Lines.{IsLine, ended, script_limit, Comes}
 
--- these lines, each with the command of its place, print these texts
-abbrev pub Follows : KeysTold → KeysTold → Stage → List (List ℕ) → List (List ℕ) → Stage → Type 0
-Follows keys keys' stage [] [] last = (last ≡ stage) × (keys' ≡ keys)
-Follows keys keys' stage (line ∷ lines) (text ∷ texts) last =
-    (next : Stage) × (then : KeysTold) × Does keys then stage line next text × Follows then keys' next lines texts last
-Follows keys keys' stage _ _ last = ⊥
-
--- A session that began with nothing: its lines, each with the command of its place, and what they printed. The key object
--- told the one before it, and the other after it.
-pub record Session (keys keys' : KeysTold) : Type 0 where
+-- Lines that were executed, each by its newline, in a session that began with nothing. The objects of the outside told the one
+-- before it, and the other after it.
+pub record Executed (o o' : Outside) : Type 0 where
   pub lines : List (List ℕ)
-  pub texts : List (List ℕ)
-  pub stage : Stage
   pub each : All IsLine lines
-  pub follows : Follows keys keys' Empty lines texts stage
+  pub fits : length (ended lines) ≤ script_limit
+  pub commands : List CommandFields
+  pub spelled : AllZip Spells lines commands
+  pub texts : List (List ℕ)
+  pub last : SessionFields
+  pub follows : Follows o o' empty commands texts last
 
--- all that a session printed
-abbrev pub printed : {keys keys' : KeysTold} → Session keys keys' → List ℕ
+-- the bytes of the lines
+abbrev pub script_of : {o o' : Outside} → Executed o o' → List ℕ
+script_of s = ended s.lines
+
+-- how many bytes they are
+abbrev pub offset_of : {o o' : Outside} → Executed o o' → ℕ
+offset_of s = length (ended s.lines)
+
+-- all that was printed
+abbrev pub printed : {o o' : Outside} → Executed o o' → List ℕ
 printed s = concat s.texts
 
--- the number of the line behind those of a session, from 1
-abbrev pub next_number : {keys keys' : KeysTold} → Session keys keys' → ℕ
+abbrev pub is_text : List ℕ → Bool
+is_text [] = false
+is_text (byte ∷ bytes) = true
+
+-- how many puts a text takes: an empty one, as that of a comment, takes none
+abbrev pub puts_of : List ℕ → ℕ
+puts_of text = if is_text text then 1 else 0
+
+-- how many puts there were
+abbrev pub puts_before : {o o' : Outside} → Executed o o' → ℕ
+puts_before s = count_by is_text s.texts
+
+-- the number of the next line, from 1
+abbrev pub next_number : {o o' : Outside} → Executed o o' → ℕ
 next_number s = length s.lines + 1
 
--- the bytes begin with a whole line that has no command of its place
-abbrev pub HasNoCommand : Stage → List ℕ → Type 0
-HasNoCommand stage bytes = (line : List ℕ) × (more : List ℕ) × (bytes ≡ line ++ 10 ∷ more) × IsLine line × IsNoCommand stage line
+-- the line of this number, from 1, spells no command or is too long
+abbrev pub fault_line : ℕ → List ℕ
+fault_line number = codes "fault line " ++ decimal number ++ newline
 
--- the bytes are the last of the script, and lack their newline
-abbrev pub IsUnended : Option (List ℕ) → List ℕ → Type 0
-IsUnended left bytes = (bytes ≢ []) × IsLine bytes × IsAtEnd left
+-- the line spells no command
+abbrev pub SpellsNone : List ℕ → Type 0
+SpellsNone line = (c : CommandFields) → ¬ (Spells line c)
 
--- the bytes begin with more of a line than a line may have
-abbrev pub HasTooLong : List ℕ → Type 0
-HasTooLong bytes = (long : List ℕ) × (more : List ℕ) × (bytes ≡ long ++ more) × IsTooLong long
+-- behind so many bytes of a script comes a line that spells no command
+abbrev pub HasNoCommand : ℕ → Option (List ℕ) → List ℕ → Type 0
+HasNoCommand offset left bytes = (line : List ℕ) × Comes offset left bytes line × SpellsNone line
 
--- the bytes, behind which this is left of the script, do not begin with the line that has its place there
-abbrev pub IsBad : Option (List ℕ) → Stage → List ℕ → Type 0
-IsBad left stage bytes = HasNoCommand stage bytes ⊎ (IsUnended left bytes ⊎ HasTooLong bytes)
+-- A line comes behind those that were executed, and its command leads to this session and prints this text.
+pub record DoesNext {o then : Outside} (s : Executed o then) (o' : Outside) (NextLine : List ℕ → Type 0) (next : SessionFields) (text : List ℕ) : Type 0 where
+  pub line : List ℕ
+  pub next_line : NextLine line
+  pub command : CommandFields
+  pub spelled : Spells line command
+  pub does : Does then o' s.last command next text

@@ -1,19 +1,35 @@
 -- What a script prints.
-use Rattle.std.specs.Prelude.{◌≡◌, ◌⊎◌, ℕ, List, ◌++◌, Option, Some}
+use Rattle.std.specs.Prelude.{◌≡◌, ◌⊎◌, ℕ, Bool, true, false, List, ◌++◌, All, Option, Some}
 use Rattle.kl_io.specs.Calls.{Rose}
 use Rattle.kl_keys.specs.Relations.{Relations}
-use Rattle.kl_console.specs.Run.{Moment, IsDone, IsFaulty}
+use Rattle.kl_states.specs.declared.outcome.DropWhy.TheVariants as why
+use Rattle.kl_history.specs.declared.record.Record.{Record}
+use Rattle.kl_history.specs.declared.record.Record.TheVariants.{Dropped}
+use Rattle.kl_history.specs.Records.{History}
+use Rattle.kl_console.specs.Run.{Moment, IsDone, IsFaulty, IsDry, IsOver}
 
--- A run ended with this status, 0 or 3: its source told these bytes, all that it had left; its key object told that it answers
--- by these relations, and its count of faults did not rise; and its output, which told its bytes, came to hold these behind
--- those that it held before.
-pub record Prints (script : List ℕ) (relations : Relations) (status : ℕ) (written : List ℕ) : Type 0 where
+-- the record drops a poll for want of memory
+abbrev pub is_short : Record → Bool
+is_short (Dropped p why.Memory) = true
+is_short _ = false
+
+-- A run ended with this status, 0, 3, 6 or 8, and dropped no poll for want of memory: its source told these bytes, all that it had
+-- left; its key object told that it answers by these relations, and its words that these bytes are left; their counts of faults
+-- did not rise; and its output, which told its bytes, came to hold these behind those that it held before.
+pub record Prints (script : List ℕ) (relations : Relations) (words : List ℕ) (status : ℕ) (written : List ℕ) : Type 0 where
   pub before : Moment
   pub after : Moment
+  pub history : History
   pub whole : before.script.left ≡ Some script
-  pub answers : before.keys.relations ≡ Some relations
-  pub faultless : ¬ (Rose before.keys.calls.faults after.keys.calls.faults)
+  pub answers : before.outside.keys.relations ≡ Some relations
+  pub gives : before.outside.words.left ≡ Some words
+  pub faultless_keys : ¬ (Rose before.outside.keys.calls.faults after.outside.keys.calls.faults)
+  pub faultless_words : ¬ (Rose before.outside.words.calls.faults after.outside.words.calls.faults)
+  pub ample : All (λ r. is_short r ≡ false) history
   pub held : List ℕ
   pub held_before : before.out.held ≡ Some held
   pub held_after : after.out.held ≡ Some (held ++ written)
-  pub ends : ((status ≡ 0) × IsDone before after) ⊎ ((status ≡ 3) × IsFaulty before after)
+  pub ends :
+      ((status ≡ 0) × IsDone before after history)
+      ⊎ (((status ≡ 3) × IsFaulty before after history)
+      ⊎ (((status ≡ 6) × IsDry before after history) ⊎ ((status ≡ 8) × IsOver before after history)))

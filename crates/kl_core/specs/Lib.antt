@@ -6,4 +6,5 @@ pub mod Begins
 pub mod Closes
 pub mod States
 pub mod Whole
+pub mod Texts
 pub mod Inner

@@ -1,6 +1,7 @@
 //! Why a desk did nothing.
 
 use kl_states::Op;
+use std::fmt;
 
 /// Why a desk did nothing. The first that applies is answered, in the order in which the call lists them; want
 /// of memory may be answered before the others were looked at.
@@ -28,4 +29,26 @@ pub enum Refusal {
     JournalBytes,
     /// Memory ran out.
     Memory,
+}
+
+impl fmt::Display for Refusal {
+    ghost use Rattle.std.specs.Prelude.{Some};
+    ghost use Rattle.kl_core.specs.Texts.{refusal_text};
+
+    ghost output = { λ why. Some (refusal_text why) };
+
+    fn fmt<W: fmt::Write>(&self, f: &mut fmt::Formatter<W>) -> fmt::Result {
+        match self {
+            Refusal::NoAgent => f.write_str("noagent"),
+            Refusal::Exists => f.write_str("exists"),
+            Refusal::AgentsFull => f.write_str("agentsfull"),
+            Refusal::WrongState(op) => write!(f, "state {op}"),
+            Refusal::Busy(number) => write!(f, "busy {number}"),
+            Refusal::NoPoll(number) => write!(f, "nopoll {number}"),
+            Refusal::NoRelease(number) => write!(f, "norelease {number}"),
+            Refusal::JournalRecords => f.write_str("journalfull records"),
+            Refusal::JournalBytes => f.write_str("journalfull bytes"),
+            Refusal::Memory => f.write_str("memory"),
+        }
+    }
 }

@@ -43,7 +43,8 @@ pub fn appraise_from<Y: Keys, L: Ledger>(
     // A refused ticket comes back, by the key object's fault or for want of memory.
     ensures back { IfErr result (λ e. e.0 ≡ ticket) }
     ensures blamed { IfErr result (λ e. IsBlamed e.1 (Y.told keys.old) (Y.told keys.new) ticket evidence) }
-    // It is left as it was, or asked once about this quote.
+    // It is left as it was where one of them decides, and else too, or asked once about this quote.
+    ensures unasked { (keys.new ≡ keys.old) ⊎ (¬ (IsUnasked (check_under ticket.terms ticket.nonce evidence false))) }
     ensures once { (keys.new ≡ keys.old) ⊎ AskedOnce (Y.told keys.old) (Y.told keys.new) ticket.terms.ak evidence.quote }
     ensures told { (Y.told keys.new).relations ≡ (Y.told keys.old).relations }
     // At most as many entries are measured as the reply's list has lines, and none where there is no outcome.

@@ -59,3 +59,24 @@ pub returns-clause-once : goal.returns-clause-once
 returns-clause-once g c =
     subst (λ (terms : TermsFields). (c.appraise_onto.new.keys ≡ c.args.keys.now) ⊎ AskedOnce (g.Y.Keys.told c.args.keys.now) (g.Y.Keys.told c.appraise_onto.new.keys) terms.ak c.args.evidence.quote)
     c.terms.ensures c.in-Err-Memory.ensures.once
+
+pub returns-in-Ok-clause-unasked : goal.returns-in-Ok-clause-unasked
+returns-in-Ok-clause-unasked g c =
+    let e = c.args.evidence in
+    let t = c.args.ticket in
+    move (λ terms nonce kept. (c.appraise_onto.new.keys ≡ c.args.keys.now) ⊎ (¬ (IsUnasked (check_under terms nonce e false))))
+    c.terms.result.now t.terms c.nonce.result.now t.nonce c.kept-kept.result t.kept c.terms.ensures c.nonce.ensures c.kept-kept.ensures.value c.in-Ok.ensures.unasked
+
+pub returns-in-Err-Keys-clause-unasked : goal.returns-in-Err-Keys-clause-unasked
+returns-in-Err-Keys-clause-unasked g c =
+    let e = c.args.evidence in
+    let t = c.args.ticket in
+    move (λ terms nonce kept. (c.appraise_onto.new.keys ≡ c.args.keys.now) ⊎ (¬ (IsUnasked (check_under terms nonce e false))))
+    c.terms.result.now t.terms c.nonce.result.now t.nonce c.kept-kept.result t.kept c.terms.ensures c.nonce.ensures c.kept-kept.ensures.value c.in-Err-Keys.ensures.unasked
+
+pub returns-clause-unasked : goal.returns-clause-unasked
+returns-clause-unasked g c =
+    let e = c.args.evidence in
+    let t = c.args.ticket in
+    move (λ terms nonce kept. (c.appraise_onto.new.keys ≡ c.args.keys.now) ⊎ (¬ (IsUnasked (check_under terms nonce e false))))
+    c.terms.result.now t.terms c.nonce.result.now t.nonce c.kept-kept.result t.kept c.terms.ensures c.nonce.ensures c.kept-kept.ensures.value c.in-Err-Memory.ensures.unasked

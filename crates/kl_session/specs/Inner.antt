@@ -1,0 +1,4 @@
+-- What models and private contracts alone cite.
+pub mod Naming
+pub mod Tickets
+pub mod Stopping

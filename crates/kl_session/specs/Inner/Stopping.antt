@@ -1,0 +1,19 @@
+-- Where memory ran out.
+use Rattle.std.specs.Prelude.{◌≡◌, ◌⊎◌, List, ℕ, None}
+use Rattle.kl_script.specs.declared.command.Begin.{Begin}
+use Rattle.kl_session.specs.Outside.{Outside}
+use Rattle.kl_session.specs.declared.stop.Stop.{Stop}
+use Rattle.kl_session.specs.declared.stop.Stop.TheVariants.{NoNonce, Memory}
+use Rattle.kl_session.specs.Calls.{SessionFields}
+use Rattle.kl_session.specs.Polls.{Draws, DoesBegin}
+use Rattle.kl_session.specs.Stopped.{DrawsNone}
+
+-- memory ran out, before anything was done or after all was
+abbrev pub IsShort : Stop → SessionFields → SessionFields → (List ℕ → Type 0) → Type 0
+IsShort stop s s' Does = (stop ≡ Memory) × (((line : List ℕ) × Does line) ⊎ (s' ≡ s))
+
+-- a begin was not answered: no nonce could be drawn, or memory ran out
+abbrev pub IsUnbegun : Stop → Outside → Outside → SessionFields → Begin → SessionFields → Type 0
+IsUnbegun NoNonce o o' s b s' = (s' ≡ s) × (b.nonce ≡ None) × DrawsNone o o'
+IsUnbegun Memory o o' s b s' =
+    ((line : List ℕ) × DoesBegin o o' b s s' line) ⊎ ((s' ≡ s) × ((o' ≡ o) ⊎ ((b.nonce ≡ None) × ((nonce : List ℕ) × Draws o o' nonce))))

@@ -1,0 +1,13 @@
+pub mod Outside
+pub mod Texts
+pub mod Terms
+pub mod Calls
+pub mod Installs
+pub mod Endings
+pub mod Polls
+pub mod Replies
+pub mod States
+pub mod Session
+pub mod Closing
+pub mod Stopped
+pub mod Inner

@@ -1,0 +1,88 @@
+-- The lines that a session prints: words with one space between two, numbers in decimal, and a newline at the end.
+use Rattle.std.specs.Prelude.{ℕ, Bool, true, false, List, [], ◌∷◌, ◌++◌, codes, decimal, Option, Some, None}
+use Rattle.kl_states.specs.declared.op.Op.{Op}
+use Rattle.kl_states.specs.declared.op.State.{State}
+use Rattle.kl_states.specs.Ops.{number_of, name_of}
+use Rattle.kl_states.specs.Ends.{lost_text, drop_text}
+use Rattle.kl_states.specs.Texts.{verdict_text}
+use Rattle.kl_incr.specs.Kept.{TicketFields}
+use Rattle.kl_appraise.specs.Kept.{from_of}
+use Rattle.kl_core.specs.declared.closed.Closed.{Closed}
+use Rattle.kl_core.specs.declared.closed.ClosedAs.{ClosedAs}
+use Rattle.kl_core.specs.declared.closed.ClosedAs.TheVariants.{Verdict, Restart, Lost, Dropped}
+use Rattle.kl_core.specs.declared.refusal.Refusal.{Refusal}
+use Rattle.kl_core.specs.declared.refusal.Refusal.TheVariants.{Memory}
+use Rattle.kl_core.specs.Texts.{refusal_text}
+use Rattle.kl_session.specs.declared.naming.NoTerms.{NoTerms}
+use Rattle.kl_session.specs.declared.naming.NoTerms.TheVariants.{PolicyLine, PolicyPaths, Mask, Static}
+
+abbrev pub newline : List ℕ
+newline = 10 ∷ []
+
+-- ---- refusals
+
+-- why a command names no terms
+abbrev pub no_terms_text : NoTerms → List ℕ
+no_terms_text (PolicyLine place) = codes "policy line " ++ decimal place
+no_terms_text PolicyPaths = codes "policy limit paths"
+no_terms_text Mask = codes "mask"
+no_terms_text Static = codes "static"
+
+-- a command was refused, for this reason
+abbrev pub refused_line : List ℕ → List ℕ
+refused_line why = codes "refused " ++ why ++ newline
+
+-- what is said of a refusal of the desk; nothing is said of want of memory, which ends a session
+abbrev pub says_refused : Refusal → Option (List ℕ)
+says_refused Memory = None
+says_refused why = Some (refused_line (refusal_text why))
+
+-- ---- what was done
+
+-- the terms of an agent were installed
+abbrev pub installed_line : List ℕ → ℕ → List ℕ
+installed_line agent generation = codes "installed " ++ agent ++ codes " generation " ++ decimal generation ++ newline
+
+abbrev pub stopped_line : List ℕ → List ℕ
+stopped_line agent = codes "stopped " ++ agent ++ newline
+
+abbrev pub removed_line : List ℕ → List ℕ
+removed_line agent = codes "removed " ++ agent ++ newline
+
+-- the moment was set
+abbrev pub now_line : ℕ → List ℕ
+now_line moment = codes "now " ++ decimal moment ++ newline
+
+-- a poll began
+abbrev pub polled_line : TicketFields → List ℕ
+polled_line t =
+    codes "poll " ++ decimal t.poll ++ codes " " ++ t.agent ++ codes " generation " ++ decimal t.generation
+    ++ codes " nonce " ++ t.nonce ++ codes " from " ++ decimal (from_of t.kept) ++ newline
+
+-- how an agent stands
+abbrev pub standing_line : List ℕ → State → List ℕ
+standing_line agent s =
+    codes "state " ++ agent ++ codes " " ++ decimal (number_of s.op) ++ codes " " ++ name_of s.op
+    ++ codes " generation " ++ decimal s.generation ++ codes " accepted " ++ decimal s.accepted ++ newline
+
+-- ---- closed polls
+
+abbrev pub current_text : Bool → List ℕ
+current_text true = codes "current"
+current_text false = codes "stale"
+
+-- the state of an agent, where it is installed
+abbrev pub op_text : Option Op → List ℕ
+op_text (Some op) = decimal (number_of op)
+op_text None = codes "none"
+
+-- by what a poll was closed
+abbrev pub closed_text : ℕ → ClosedAs → Bool → List ℕ
+closed_text p (Verdict v) now = codes "verdict " ++ decimal p ++ codes " " ++ verdict_text v ++ codes " " ++ current_text now
+closed_text p Restart now = codes "restart " ++ decimal p ++ codes " " ++ current_text now
+closed_text p (Lost why) now = codes "lost " ++ decimal p ++ codes " " ++ lost_text why ++ codes " " ++ current_text now
+closed_text p (Dropped why) now = codes "dropped " ++ decimal p ++ codes " " ++ drop_text why
+
+-- a poll was closed, after which its agent is in this state
+abbrev pub closed_line : Closed → List ℕ
+closed_line c = closed_text c.poll c.as_what c.current ++ codes " state " ++ op_text c.op ++ newline

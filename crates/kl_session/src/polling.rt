@@ -1,0 +1,85 @@
+//! Polls begin.
+
+ghost use Rattle.std.specs.Prelude.{◌≡◌, ◌⊎◌, IfOk, IfErr, Err, Some, None, ℕ, List, string_bytes};
+ghost use Rattle.kl_session.specs.Outside.{outside};
+ghost use Rattle.kl_session.specs.Polls.{HasNonce, BeginsWith, DoesBegin};
+ghost use Rattle.kl_session.specs.Stopped.{DrawsNone};
+ghost use Rattle.kl_session.specs.Inner.Stopping.{IsShort, IsUnbegun};
+ghost use Rattle.kl_keys.specs.Told.{KeysTold};
+ghost use Rattle.hex.specs.Hex.{encode_lower};
+
+use crate::refusals::say_refused;
+use crate::session::Session;
+use crate::stop::Stop;
+use crate::texts::polled_line;
+use kl_io::Words;
+use kl_script::Begin;
+use kl_states::{AgentId, Nonce};
+use std::alloc::Global;
+
+/// The nonce of 16 drawn bytes: their hexadecimal digits.
+fn nonce_from(drawn: &[u8; 16]) -> Nonce
+    ensures { result ≡ encode_lower drawn.now }
+{
+    let mut digits = [0; 32];
+    let written = hex::encode_to_slice(drawn, &mut digits);
+    match Nonce::from_bytes(&digits) {
+        Some(nonce) => nonce,
+        None => unreachable!(),
+    }
+}
+
+/// The nonce that a begin names, or one that is drawn: 16 bytes in hexadecimal digits.
+fn nonce_of<N: Words>(named: Option<Nonce>, nonces: &mut N) -> Option<Nonce>
+    ensures some { IfSome result (λ nonce. (keys : KeysTold) (steps : ℕ) → HasNonce (outside keys (N.told nonces.old) steps)
+        (outside keys (N.told nonces.new) steps) named nonce) }
+    ensures none { result ≡ None → (named ≡ None) × ((keys : KeysTold) (steps : ℕ) → DrawsNone (outside keys (N.told nonces.old) steps)
+        (outside keys (N.told nonces.new) steps)) }
+{
+    match named {
+        Some(nonce) => Some(nonce),
+        None => {
+            let mut drawn = [0; 16];
+            match nonces.fill(&mut drawn) {
+                Ok(()) => Some(nonce_from(&drawn)),
+                Err(_) => None,
+            }
+        },
+    }
+}
+
+impl Session {
+    /// Begins a poll of an agent.
+    pub(crate) fn begin<N: Words>(
+        &mut self,
+        alloc: Global,
+        begin: Begin,
+        nonces: &mut N,
+    ) -> Result<String, Stop>
+        ensures done { IfOk result (λ line. (keys : KeysTold) (steps : ℕ) → DoesBegin (outside keys (N.told nonces.old) steps)
+            (outside keys (N.told nonces.new) steps) begin self.old self.new (string_bytes line)) }
+        ensures stopped { IfErr result (λ stop. (keys : KeysTold) (steps : ℕ) → IsUnbegun stop (outside keys (N.told nonces.old) steps)
+            (outside keys (N.told nonces.new) steps) self.old begin self.new) }
+    {
+        let Some(nonce) = nonce_of(begin.nonce, nonces) else {
+            return Err(Stop::NoNonce);
+        };
+        self.begin_with(alloc, begin.agent, nonce)
+    }
+
+    /// Begins a poll of an agent with this nonce.
+    fn begin_with(&mut self, alloc: Global, agent: AgentId, nonce: Nonce) -> Result<String, Stop>
+        ensures done { IfOk result (λ line. BeginsWith agent nonce self.old self.new (string_bytes line)) }
+        ensures short { IfErr result (λ stop. IsShort stop self.old self.new (BeginsWith agent nonce self.old self.new)) }
+    {
+        self.tickets.reserve(1)?;
+        match self.book.begin(&agent, nonce, self.now) {
+            Ok(ticket) => {
+                let line = polled_line(alloc, &ticket);
+                self.tickets.push_reserved(ticket);
+                Ok(line?)
+            },
+            Err(why) => say_refused(alloc, why),
+        }
+    }
+}

@@ -1,0 +1,143 @@
+//! The lines that a session prints.
+
+ghost use Rattle.std.specs.Prelude.{◌≡◌, IfOk, Some, string_bytes};
+ghost use Rattle.kl_session.specs.Texts.{
+  closed_line,
+  installed_line,
+  no_terms_text,
+  now_line,
+  op_text,
+  polled_line,
+  refused_line,
+  removed_line,
+  standing_line,
+  stopped_line,
+};
+ghost use Rattle.kl_core.specs.Texts.{refusal_text};
+
+use crate::naming::NoTerms;
+use kl_core::{Closed, ClosedAs, Refusal};
+use kl_incr::Ticket;
+use kl_states::{AgentId, Op, State};
+use std::alloc::{AllocError, Global};
+use std::fmt;
+
+/// A command was refused by the desk.
+pub fn refused_line(alloc: Global, why: Refusal) -> Result<String, AllocError>
+    ensures { IfOk result (λ line. string_bytes line ≡ refused_line (refusal_text why)) }
+{
+    format!(in alloc; "refused {why}\n")
+}
+
+/// A command was refused, since it names no terms.
+pub fn no_terms_line(alloc: Global, why: NoTerms) -> Result<String, AllocError>
+    ensures { IfOk result (λ line. string_bytes line ≡ refused_line (no_terms_text why)) }
+{
+    format!(in alloc; "refused {why}\n")
+}
+
+/// The terms of an agent were installed.
+pub fn installed_line(alloc: Global, agent: AgentId, generation: u64) -> Result<String, AllocError>
+    ensures { IfOk result (λ line. string_bytes line ≡ installed_line agent generation) }
+{
+    let agent = agent.as_str();
+    format!(in alloc; "installed {agent} generation {generation}\n")
+}
+
+/// An agent was stopped.
+pub fn stopped_line(alloc: Global, agent: AgentId) -> Result<String, AllocError>
+    ensures { IfOk result (λ line. string_bytes line ≡ stopped_line agent) }
+{
+    let agent = agent.as_str();
+    format!(in alloc; "stopped {agent}\n")
+}
+
+/// An agent was removed.
+pub fn removed_line(alloc: Global, agent: AgentId) -> Result<String, AllocError>
+    ensures { IfOk result (λ line. string_bytes line ≡ removed_line agent) }
+{
+    let agent = agent.as_str();
+    format!(in alloc; "removed {agent}\n")
+}
+
+/// The moment was set, in milliseconds.
+pub fn now_line(alloc: Global, moment: u64) -> Result<String, AllocError>
+    ensures { IfOk result (λ line. string_bytes line ≡ now_line moment) }
+{
+    format!(in alloc; "now {moment}\n")
+}
+
+/// A poll began.
+pub fn polled_line(alloc: Global, ticket: &Ticket) -> Result<String, AllocError>
+    ensures { IfOk result (λ line. string_bytes line ≡ polled_line ticket.now) }
+{
+    let (poll, generation, from) = (ticket.poll(), ticket.generation(), ticket.from());
+    let agent = ticket.agent();
+    let agent = agent.as_str();
+    let nonce = ticket.nonce().as_str();
+    format!(in alloc; "poll {poll} {agent} generation {generation} nonce {nonce} from {from}\n")
+}
+
+/// How an agent stands.
+pub fn standing_line(alloc: Global, agent: AgentId, state: State) -> Result<String, AllocError>
+    ensures { IfOk result (λ line. string_bytes line ≡ standing_line agent state) }
+{
+    let agent = agent.as_str();
+    let State {
+        op,
+        generation,
+        accepted,
+    } = state;
+    let name = op.name();
+    format!(in alloc; "state {agent} {op} {name} generation {generation} accepted {accepted}\n")
+}
+
+/// Whether what was closed was current.
+#[derive(Clone, Copy)]
+struct Current(bool);
+
+impl fmt::Display for Current {
+    ghost use Rattle.std.specs.Prelude.{Some};
+    ghost use Rattle.kl_session.specs.Texts.{current_text};
+
+    ghost output = { λ c. Some (current_text c.0) };
+
+    fn fmt<W: fmt::Write>(&self, f: &mut fmt::Formatter<W>) -> fmt::Result {
+        f.write_str(if self.0 { "current" } else { "stale" })
+    }
+}
+
+/// The state of an agent, where it is installed.
+#[derive(Clone, Copy)]
+struct Standing(Option<Op>);
+
+impl fmt::Display for Standing {
+    ghost use Rattle.std.specs.Prelude.{Some};
+    ghost use Rattle.kl_session.specs.Texts.{op_text};
+
+    ghost output = { λ s. Some (op_text s.0) };
+
+    fn fmt<W: fmt::Write>(&self, f: &mut fmt::Formatter<W>) -> fmt::Result {
+        match self.0 {
+            Some(op) => write!(f, "{op}"),
+            None => f.write_str("none"),
+        }
+    }
+}
+
+/// A poll was closed.
+pub fn closed_line(alloc: Global, closed: Closed) -> Result<String, AllocError>
+    ensures { IfOk result (λ line. string_bytes line ≡ closed_line closed) }
+{
+    let poll = closed.poll;
+    let current = Current(closed.current);
+    let state = Standing(closed.op);
+    match closed.as_what {
+        ClosedAs::Verdict(verdict) => {
+            format!(in alloc; "verdict {poll} {verdict} {current} state {state}\n")
+        },
+        ClosedAs::Restart => format!(in alloc; "restart {poll} {current} state {state}\n"),
+        ClosedAs::Lost(why) => format!(in alloc; "lost {poll} {why} {current} state {state}\n"),
+        ClosedAs::Dropped(why) => format!(in alloc; "dropped {poll} {why} state {state}\n"),
+    }
+}

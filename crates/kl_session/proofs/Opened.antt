@@ -1,5 +1,5 @@
 -- The tickets of the open polls, as records come and polls close.
-use Rattle.std.proofs.Common.{◌≡◌, ℕ, ◌+◌, ◌<◌, ◌≤◌, Bool, true, false, not, ◌&&◌, ◌||◌, cond, List, [], ◌∷◌, ◌++◌, map, length, Some, inl, inr, refl, ap, sym, ◌∙◌, subst, arith, absurd, suc}
+use Rattle.std.proofs.Common.{◌≡◌, ℕ, ◌+◌, ◌<◌, ◌≤◌, Bool, true, false, not, ◌&&◌, ◌||◌, cond, List, [], ◌∷◌, ◌++◌, map, length, Some, inl, inr, refl, ap, sym, ◌∙◌, subst, arith, suc, zero}
 use Rattle.std.specs.Prelude.{All, Contains}
 use Rattle.std.proofs.lemmas.List.{reverse-append, map-append}
 use Rattle.std.proofs.lemmas.List.Elements.{All-nil, All-cons, All-head, All-tail, All-append, All-push, All-weaker, All-map, All-contains, Contains-append_left, Contains-append_right, Contains-push, Contains-append_cases, Contains-push_cases}
@@ -56,7 +56,7 @@ all_both P Q R both [] p q = All-nil R
 all_both P Q R both (x ∷ xs) p q = All-cons R x xs (both x (All-head P x xs p) (All-head Q x xs q)) (all_both P Q R both xs (All-tail P x xs p) (All-tail Q x xs q))
 
 only : (n p : ℕ) → Contains (n ∷ []) p → n ≡ p
-only n p (0, less, is) = is
+only n p (zero, less, is) = is
 only n p (suc k, less, is) = absurd (omega arith)
 
 behind_head : (n : ℕ) (ns : List ℕ) (p : ℕ) → (p ≡ n → ⊥) → Contains (n ∷ ns) p → Contains ns p
@@ -112,6 +112,10 @@ begun H r t ts legal no_close begins_it closes_none below given are =
 
 -- ---- a poll is closed
 
+not_both : (b c : Bool) → b ≡ true → (not b && c) ≡ true → ⊥
+not_both true c yes both = cc
+not_both false c yes both = cc
+
 pub closed : (H : History) (r : Record) (front back : List TicketFields) (t : TicketFields) → Legal (H ++ r ∷ [])
     → ((p : ℕ) → begins p r ≡ false) → ((p : ℕ) → closes p r ≡ eqb p t.poll)
     → AreTickets (past_of H) (front ++ t ∷ back) → AreTickets (past_of (H ++ r ∷ [])) (front ++ back)
@@ -132,7 +136,7 @@ closed H r front back t legal begins_none closes_it are =
           (λ u ne is. open_ticket H (r ∷ []) u legal (now u.poll ∙ (rw (ne_eqb u.poll t.poll ne, is.0) refl)) is.1) (front ++ back) apart others;
       all = λ p is.
           let split = sym (now p) ∙ is in
-          let ne : p ≡ t.poll → ⊥ = λ e. absurd (sym (ap (λ b. not b && is_open (past_of H) p) (eq-eqb p t.poll e)) ∙ split) in
+          let ne : p ≡ t.poll → ⊥ = λ e. not_both (eqb p t.poll) (is_open (past_of H) p) (eq-eqb p t.poll e) split in
           let opened : is_open (past_of H) p ≡ true = sym (ap (λ b. not b && is_open (past_of H) p) (ne_eqb p t.poll ne)) ∙ split in
           let at = subst (λ ns. Contains ns p) (map-append number front (t ∷ back)) (are.all p opened) in
           subst (λ ns. Contains ns p) (sym joined)

@@ -6,11 +6,11 @@ use Rattle.kl_history.specs.Records.{History, Past, past_of}
 -- how far a session has come: the history of its polls, and the moment, in milliseconds
 pub record SessionFields : Type 0 where
   pub history : History
-  pub now : ℕ
+  pub moment : ℕ
 
 -- a session in which nothing was done
 abbrev pub empty : SessionFields
-empty = record { history = []; now = 0 }
+empty = record { history = []; moment = 0 }
 
 -- what happened so far, the newest record first
 abbrev pub past : SessionFields → Past
@@ -18,7 +18,7 @@ past s = past_of s.history
 
 -- the session with these records more
 abbrev pub with_more : List Record → SessionFields → SessionFields
-with_more made s = record { history = s.history ++ made; now = s.now }
+with_more made s = record { history = s.history ++ made; moment = s.moment }
 
 -- A call of the desk was answered so: it has made its records, and the line says what it answered. An answer of which nothing
 -- is said ends the session.

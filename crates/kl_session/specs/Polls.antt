@@ -32,7 +32,7 @@ says_polled (Err why) = says_refused why
 
 -- a poll of the agent begins, at the moment and with this nonce
 abbrev pub BeginsWith : List ℕ → List ℕ → SessionFields → SessionFields → List ℕ → Type 0
-BeginsWith agent nonce s s' line = Answered (BeginAnswers agent nonce s.now) (begin_makes s.now) says_polled s s' line
+BeginsWith agent nonce s s' line = Answered (BeginAnswers agent nonce s.moment) (begin_makes s.moment) says_polled s s' line
 
 -- a nonce that is to be drawn is drawn first, also where the poll is then refused
 abbrev pub DoesBegin : Outside → Outside → Begin → SessionFields → SessionFields → List ℕ → Type 0

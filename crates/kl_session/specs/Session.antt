@@ -19,7 +19,7 @@ Does o o' s (replace r) s' line = (o' ≡ o) × DoesReplace r s s' line
 Does o o' s (reactivate agent) s' line = (o' ≡ o) × DoesReactivate agent s s' line
 Does o o' s (stop agent) s' line = (o' ≡ o) × DoesStop agent s s' line
 Does o o' s (remove agent) s' line = (o' ≡ o) × DoesRemove agent s s' line
-Does o o' s (now moment) s' line = (o' ≡ o) × (s' ≡ record { history = s.history; now = moment }) × (line ≡ now_line moment)
+Does o o' s (now moment) s' line = (o' ≡ o) × (s' ≡ record { history = s.history; moment = moment }) × (line ≡ now_line moment)
 Does o o' s (begin b) s' line = DoesBegin o o' b s s' line
 Does o o' s (reply r) s' line = DoesReply o o' r s s' line
 Does o o' s (state agent) s' line = (o' ≡ o) × (s' ≡ s) × SaysState agent s line

@@ -17,7 +17,7 @@ impl Session {
         let Session {
             mut book,
             mut tickets,
-            now: _,
+            moment: _,
         } = self;
         tickets.reverse();
         while let Some(ticket) = tickets.pop() {

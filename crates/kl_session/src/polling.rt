@@ -1,6 +1,6 @@
 //! Polls begin.
 
-ghost use Rattle.std.specs.Prelude.{◌≡◌, ◌⊎◌, IfOk, IfErr, Err, Some, None, ℕ, List, string_bytes};
+ghost use Rattle.std.specs.Prelude.{◌≡◌, IfOk, IfErr, IfSome, None, ℕ, string_bytes};
 ghost use Rattle.kl_session.specs.Outside.{outside};
 ghost use Rattle.kl_session.specs.Polls.{HasNonce, BeginsWith, DoesBegin};
 ghost use Rattle.kl_session.specs.Stopped.{DrawsNone};
@@ -73,7 +73,7 @@ impl Session {
         ensures short { IfErr result (λ stop. IsShort stop self.old self.new (BeginsWith agent nonce self.old self.new)) }
     {
         self.tickets.reserve(1)?;
-        match self.book.begin(&agent, nonce, self.now) {
+        match self.book.begin(&agent, nonce, self.moment) {
             Ok(ticket) => {
                 let line = polled_line(alloc, &ticket);
                 self.tickets.push_reserved(ticket);

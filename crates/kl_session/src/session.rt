@@ -32,7 +32,7 @@ pub struct Session {
     pub(crate) book: Book,
     /// Of the open polls, in the order of their numbers.
     pub(crate) tickets: Vec<Ticket>,
-    pub(crate) now: u64,
+    pub(crate) moment: u64,
 }
 
 impl Model for Session {
@@ -46,7 +46,7 @@ impl Model for Session {
 
     ghost coded = { Prim.hlevel (codes, digest_map_code) };
 
-    ghost view = { λ s. record { history = s.book; now = s.now } };
+    ghost view = { λ s. record { history = s.book; moment = s.moment } };
 
     ghost invariant = { λ s. AreTickets (past_of s.book) s.tickets.items };
 }
@@ -62,7 +62,7 @@ impl Session {
         Ok(Session {
             book: Book::new(alloc)?,
             tickets: Vec::new(alloc),
-            now: 0,
+            moment: 0,
         })
     }
 
@@ -100,7 +100,7 @@ impl Session {
 
     /// Sets the moment, in milliseconds.
     fn set_now(&mut self, alloc: Global, moment: u64) -> Result<String, Stop> {
-        self.now = moment;
+        self.moment = moment;
         Ok(now_line(alloc, moment)?)
     }
 

@@ -1,13 +1,13 @@
 //! The tickets of the polls that are open.
 
-ghost use Rattle.std.specs.Prelude.{◌≡◌, IfSome, IfNone, Contains};
+ghost use Rattle.std.specs.Prelude.{◌≡◌, IfSome, IfNone, Some, Contains, slice_get};
 ghost use Rattle.kl_session.specs.Inner.Tickets.{Takes, poll_numbers};
 
 use kl_incr::Ticket;
 
 /// The place of a poll's ticket.
 fn place_of(tickets: &[Ticket], poll: u64) -> Option<usize>
-    ensures some { IfSome result (λ place. StandsAt (poll_numbers tickets.now) place poll) }
+    ensures some { IfSome result (λ place. slice_get (poll_numbers tickets.now) place ≡ Some poll) }
     ensures none { IfNone result (¬ (Contains (poll_numbers tickets.now) poll)) }
 {
     tickets.iter().position(|ticket| ticket.poll() == poll)

@@ -1,5 +1,5 @@
 -- The tickets of the open polls, as records come and polls close.
-use Rattle.std.proofs.Common.{◌≡◌, ℕ, ◌+◌, ◌<◌, ◌≤◌, Bool, true, false, not, ◌&&◌, ◌||◌, cond, List, [], ◌∷◌, ◌++◌, map, length, Some, inl, inr, refl, ap, sym, ◌∙◌, subst, arith, suc, zero}
+use Rattle.std.proofs.Common.{◌≡◌, ℕ, ◌+◌, ◌<◌, ◌≤◌, Bool, true, false, not, ◌&&◌, ◌||◌, cond, List, [], ◌∷◌, ◌++◌, map, length, Some, inl, inr, refl, ap, sym, ◌∙◌, subst, arith, append_assoc, append-nil, reverse, suc, zero}
 use Rattle.std.specs.Prelude.{All, Contains}
 use Rattle.std.proofs.lemmas.List.{reverse-append, map-append}
 use Rattle.std.proofs.lemmas.List.Elements.{All-nil, All-cons, All-head, All-tail, All-append, All-push, All-weaker, All-map, All-contains, Contains-append_left, Contains-append_right, Contains-push, Contains-append_cases, Contains-push_cases}
@@ -12,7 +12,9 @@ use Rattle.kl_history.specs.Records.{History, Past, past_of, begins, closes, is_
 use Rattle.kl_history.specs.Legal.{Legal}
 use Rattle.kl_core.specs.Tickets.{IsGiven, IsOpenTicket}
 use Rattle.kl_core.proofs.Givens.{given_stands}
-use Rattle.kl_session.specs.Closing.{IsRising}
+use Rattle.kl_states.specs.declared.outcome.DropWhy.TheVariants.{End}
+use Rattle.kl_history.specs.declared.record.Record.TheVariants.{Dropped}
+use Rattle.kl_session.specs.Closing.{IsRising, AreOpen, drops}
 use Rattle.kl_session.specs.Inner.Tickets.{poll_numbers, AreTickets}
 
 -- ---- rising numbers
@@ -26,16 +28,18 @@ all_left : {X : Type 0} (P : X → Type 0) (xs ys : List X) → All P (xs ++ ys)
 all_left P [] ys all = All-nil P
 all_left P (x ∷ xs) ys all = All-cons P x xs (All-head P x (xs ++ ys) all) (all_left P xs ys (All-tail P x (xs ++ ys) all))
 
-all_right : {X : Type 0} (P : X → Type 0) (xs ys : List X) → All P (xs ++ ys) → All P ys
+pub all_right : {X : Type 0} (P : X → Type 0) (xs ys : List X) → All P (xs ++ ys) → All P ys
 all_right P [] ys all = all
 all_right P (x ∷ xs) ys all = all_right P xs ys (All-tail P x (xs ++ ys) all)
 
 -- without one of them they rise still, and it is none of the others
 pub rising_without : (front back : List ℕ) (n : ℕ) → IsRising (front ++ n ∷ back) → IsRising (front ++ back)
 rising_without [] back n rising = rising.1
-rising_without (m ∷ front) back n rising =
-    (All-append (λ k. m < k) front back (all_left (λ k. m < k) front (n ∷ back) rising.0)
-    (All-tail (λ k. m < k) n back (all_right (λ k. m < k) front (n ∷ back) rising.0)), rising_without front back n rising.1)
+rising_without (m ∷ front) back n rising = (
+  All-append (λ k. m < k) front back (all_left (λ k. m < k) front (n ∷ back) rising.0)
+      (All-tail (λ k. m < k) n back (all_right (λ k. m < k) front (n ∷ back) rising.0)),
+  rising_without front back n rising.1,
+)
 
 others_differ : (front back : List ℕ) (n : ℕ) → IsRising (front ++ n ∷ back) → All (λ m. m ≡ n → ⊥) (front ++ back)
 others_differ [] back n rising = All-weaker (λ m. n < m) (λ m. m ≡ n → ⊥) (λ m less e. omega arith) back rising.0
@@ -91,12 +95,12 @@ pub begun : (H : History) (r : Record) (t : TicketFields) (ts : List TicketField
     → AreTickets (past_of H) ts → AreTickets (past_of (H ++ r ∷ [])) (ts ++ t ∷ [])
 begun H r t ts legal no_close begins_it closes_none below given are =
     let now : (p : ℕ) → is_open (past_of (H ++ r ∷ [])) p ≡ (eqb p t.poll || is_open (past_of H) p) =
-        λ p. ap (λ past. is_open past p) (behind H (r ∷ [])) ∙ (rw (closes_none p, begins_it p) refl) in
+    λ p. ap (λ past. is_open past p) (behind H (r ∷ [])) ∙ (rw (closes_none p, begins_it p) refl) in
     let old : (p : ℕ) → is_open (past_of H) p ≡ true → is_open (past_of (H ++ r ∷ [])) p ≡ true =
-        λ p is. now p ∙ (rw is (or_true (eqb p t.poll))) in
+    λ p is. now p ∙ (rw is (or_true (eqb p t.poll))) in
     let joined : poll_numbers (ts ++ t ∷ []) ≡ poll_numbers ts ++ t.poll ∷ [] = map-append (λ (u : TicketFields). u.poll) ts (t ∷ []) in
     let less : All (λ m. m < t.poll) (poll_numbers ts) =
-        All-map (λ m. m < t.poll) (λ (u : TicketFields). u.poll) ts (All-weaker (IsOpenTicket (past_of H)) (λ u. u.poll < t.poll) (λ u is. below u.poll is.0) ts are.opened) in
+    All-map (λ m. m < t.poll) (λ (u : TicketFields). u.poll) ts (All-weaker (IsOpenTicket (past_of H)) (λ u. u.poll < t.poll) (λ u is. below u.poll is.0) ts are.opened) in
     record {
       rising = subst IsRising (sym joined) (rising_push (poll_numbers ts) t.poll are.rising less);
       opened =
@@ -113,8 +117,8 @@ begun H r t ts legal no_close begins_it closes_none below given are =
 -- ---- a poll is closed
 
 not_both : (b c : Bool) → b ≡ true → (not b && c) ≡ true → ⊥
-not_both true c yes both = cc
-not_both false c yes both = cc
+not_both true c is both = cc
+not_both false c is both = cc
 
 pub closed : (H : History) (r : Record) (front back : List TicketFields) (t : TicketFields) → Legal (H ++ r ∷ [])
     → ((p : ℕ) → begins p r ≡ false) → ((p : ℕ) → closes p r ≡ eqb p t.poll)
@@ -122,14 +126,14 @@ pub closed : (H : History) (r : Record) (front back : List TicketFields) (t : Ti
 closed H r front back t legal begins_none closes_it are =
     let number : TicketFields → ℕ = λ u. u.poll in
     let now : (p : ℕ) → is_open (past_of (H ++ r ∷ [])) p ≡ (not (eqb p t.poll) && is_open (past_of H) p) =
-        λ p. ap (λ past. is_open past p) (behind H (r ∷ [])) ∙ (rw (closes_it p, begins_none p) refl) in
+    λ p. ap (λ past. is_open past p) (behind H (r ∷ [])) ∙ (rw (closes_it p, begins_none p) refl) in
     let rising : IsRising (map number front ++ t.poll ∷ map number back) = subst IsRising (map-append number front (t ∷ back)) are.rising in
     let joined : poll_numbers (front ++ back) ≡ map number front ++ map number back = map-append number front back in
     let differ : All (λ m. m ≡ t.poll → ⊥) (map number front ++ map number back) = others_differ (map number front) (map number back) t.poll rising in
     let apart : All (λ (u : TicketFields). u.poll ≡ t.poll → ⊥) (front ++ back) = All-unmap (λ m. m ≡ t.poll → ⊥) number (front ++ back) (subst (All (λ m. m ≡ t.poll → ⊥)) (sym joined) differ) in
     let others : All (IsOpenTicket (past_of H)) (front ++ back) =
-        All-append (IsOpenTicket (past_of H)) front back (all_left (IsOpenTicket (past_of H)) front (t ∷ back) are.opened)
-        (All-tail (IsOpenTicket (past_of H)) t back (all_right (IsOpenTicket (past_of H)) front (t ∷ back) are.opened)) in
+    All-append (IsOpenTicket (past_of H)) front back (all_left (IsOpenTicket (past_of H)) front (t ∷ back) are.opened)
+    (All-tail (IsOpenTicket (past_of H)) t back (all_right (IsOpenTicket (past_of H)) front (t ∷ back) are.opened)) in
     record {
       rising = subst IsRising (sym joined) (rising_without (map number front) (map number back) t.poll rising);
       opened = all_both (λ (u : TicketFields). u.poll ≡ t.poll → ⊥) (IsOpenTicket (past_of H)) (IsOpenTicket (past_of (H ++ r ∷ [])))
@@ -146,3 +150,57 @@ closed H r front back t legal begins_none closes_it are =
           ]);
     }
 
+-- ---- the session ends
+
+-- the numbers of the tickets are those of the open polls
+pub are_open : (past : Past) (ts : List TicketFields) → AreTickets past ts → AreOpen past (poll_numbers ts)
+are_open past ts are =
+    let opened : All (λ p. is_open past p ≡ true) (poll_numbers ts) =
+    All-map (λ p. is_open past p ≡ true) (λ (u : TicketFields). u.poll) ts (All-weaker (IsOpenTicket past) (λ u. is_open past u.poll ≡ true) (λ u is. is.0) ts are.opened) in
+    record { rising = are.rising; each = λ p. ((λ among. All-contains (λ q. is_open past q ≡ true) (poll_numbers ts) p opened among), are.all p) }
+
+-- Of the open polls the first ones were dropped, and these tickets are left.
+pub record Dropping (first now : History) (all left : List TicketFields) : Type 0 where
+  pub done : List ℕ
+  pub history : now ≡ first ++ drops done
+  pub numbers : poll_numbers all ≡ done ++ poll_numbers left
+  pub tickets : AreTickets (past_of now) left
+
+pub drop_none : (H : History) (ts : List TicketFields) → AreTickets (past_of H) ts → Dropping H H ts ts
+drop_none H ts are = record { done = []; history = sym (append-nil H); numbers = refl; tickets = are }
+
+-- one more is dropped
+pub drop_more : (first H : History) (all left : List TicketFields) (t : TicketFields) → Legal (H ++ Dropped t.poll End ∷ [])
+    → Dropping first H all (t ∷ left) → Dropping first (H ++ Dropped t.poll End ∷ []) all left
+drop_more first H all left t legal d =
+    record {
+      done = d.done ++ t.poll ∷ [];
+      history = rw (d.history, map-append (λ p. Dropped p End) d.done (t.poll ∷ [])) (append_assoc first (drops d.done) (Dropped t.poll End ∷ []));
+      numbers = d.numbers ∙ sym (append_assoc d.done (t.poll ∷ []) (poll_numbers left));
+      tickets = closed H (Dropped t.poll End) [] left t legal (λ p. refl) (λ p. refl) d.tickets;
+    }
+
+-- all are dropped
+pub dropped_all : (first H : History) (all : List TicketFields) → AreTickets (past_of first) all → Dropping first H all []
+    → (polls : List ℕ) × AreOpen (past_of first) polls × (H ≡ first ++ drops polls)
+dropped_all first H all are d =
+    let numbers : poll_numbers all ≡ d.done = d.numbers ∙ append-nil d.done in
+    (poll_numbers all, are_open (past_of first) all are, d.history ∙ ap (λ ps. first ++ drops ps) (sym numbers))
+
+-- the last of a list is the first of it turned round
+pub turned : (xs : List TicketFields) (x : TicketFields) → reverse (xs ++ x ∷ []) ≡ x ∷ reverse xs
+turned xs x = reverse-append xs (x ∷ [])
+
+-- the next ticket is the last of the row
+pub next_dropped : (first H : History) (all row front : List TicketFields) (t : TicketFields) → row ≡ front ++ t ∷ [] → Dropping first H all (reverse row) → Dropping first H all (t ∷ reverse front)
+next_dropped first H all row front t cut d = subst (Dropping first H all) (ap reverse cut ∙ turned front t) d
+
+pub head_opened : (first H : History) (all left : List TicketFields) (t : TicketFields) → Dropping first H all (t ∷ left) → IsOpenTicket (past_of H) t
+head_opened first H all left t d = All-head (IsOpenTicket (past_of H)) t left d.tickets.opened
+
+-- a poll that none of the tickets is of is not open
+pub none_of : (past : Past) (ts : List TicketFields) (p : ℕ) → AreTickets past ts → All (λ (t : TicketFields). t.poll ≡ p → ⊥) ts → is_open past p ≡ false
+none_of past ts p are none = none_if (is_open past p) refl where
+  none_if : (b : Bool) → is_open past p ≡ b → is_open past p ≡ false
+  none_if false is = is
+  none_if true is = absurd (All-contains (λ q. q ≡ p → ⊥) (poll_numbers ts) p (All-map (λ q. q ≡ p → ⊥) (λ (u : TicketFields). u.poll) ts none) (are.all p is) refl)

@@ -2,3 +2,4 @@
 pub mod Naming
 pub mod Tickets
 pub mod Stopping
+pub mod Closed

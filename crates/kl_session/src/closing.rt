@@ -1,12 +1,31 @@
 //! A session ends.
 
-ghost use Rattle.std.specs.Prelude.{◌≡◌};
+ghost use Rattle.std.specs.Prelude.{◌≡◌, ◌++◌, List, ℕ};
 ghost use Rattle.kl_history.specs.Legal.{Legal};
-ghost use Rattle.kl_session.specs.Closing.{IsEnded};
+ghost use Rattle.kl_history.specs.Records.{past_of};
+ghost use Rattle.kl_session.specs.Closing.{AreOpen, IsEnded, drops};
+ghost use Rattle.kl_session.specs.Inner.Tickets.{AreTickets};
 
 use crate::session::Session;
 use kl_core::Book;
+use kl_incr::Ticket;
 use kl_states::DropWhy;
+
+/// Drops the open polls, whose tickets these are, in their order.
+fn drop_all(book: &mut Book, mut tickets: Vec<Ticket>)
+    requires { AreTickets (past_of book.old) tickets.items }
+    ensures dropped { (polls : List ℕ) × AreOpen (past_of book.old) polls × (book.new ≡ book.old ++ drops polls) }
+{
+    tickets.reverse();
+    while let Some(ticket) = tickets.pop() {
+        match book.drop_own(ticket, DropWhy::End) {
+            Ok(_) => {},
+            Err(_) => unreachable!(),
+        }
+        let _len = book.len();
+    }
+    tickets.destroy_empty();
+}
 
 impl Session {
     /// Ends the session. The polls that are open are dropped, in the order of their numbers.
@@ -16,17 +35,10 @@ impl Session {
     {
         let Session {
             mut book,
-            mut tickets,
+            tickets,
             moment: _,
         } = self;
-        tickets.reverse();
-        while let Some(ticket) = tickets.pop() {
-            match book.drop_own(ticket, DropWhy::End) {
-                Ok(_) => {},
-                Err(_) => unreachable!(),
-            }
-        }
-        tickets.destroy_empty();
+        drop_all(&mut book, tickets);
         let _len = book.len();
         book
     }

@@ -2,27 +2,64 @@
 
 ghost use Rattle.std.specs.Prelude.{◌≡◌, ◌++◌, ◌∷◌, [], IfOk, IfErr, string_bytes};
 ghost use Rattle.kl_io.specs.Told.{WordsTold};
-ghost use Rattle.kl_history.specs.declared.record.Record.{Record as AnyRecord};
+ghost use Rattle.kl_history.specs.declared.record.Record.TheVariants.{Dropped};
+ghost use Rattle.kl_history.specs.Legal.{Legal};
 ghost use Rattle.kl_history.specs.Records.{past_of};
 ghost use Rattle.kl_core.specs.Tickets.{IsOpenTicket};
 ghost use Rattle.kl_script.specs.Commands.{reply_fields};
 ghost use Rattle.kl_session.specs.Outside.{outside};
-ghost use Rattle.kl_session.specs.Replies.{Closes, DoesReply};
-ghost use Rattle.kl_session.specs.Inner.Stopping.{IsShort};
+ghost use Rattle.kl_core.specs.Closes.{IsClosed, closed_by, record_by};
+ghost use Rattle.kl_session.specs.Replies.{DoesReply};
+ghost use Rattle.kl_session.specs.Texts.{closed_line};
+ghost use Rattle.kl_session.specs.Inner.Closed.{ClosesBook, IsFound};
+ghost use Rattle.kl_session.specs.Inner.Stopping.{IsUndone};
 
 use crate::refusals::say_refused;
 use crate::session::Session;
 use crate::stop::Stop;
 use crate::texts::closed_line;
 use crate::tickets::take_ticket;
-use kl_core::{Book, Closed, Refusal};
-use kl_incr::{Ticket, appraise_from};
+use kl_core::{Book, Closed, ClosedAs, Refusal};
+use kl_incr::{Appraised, Ticket, appraise_from};
 use kl_keys::Keys;
 use kl_pcr::Steps;
 use kl_quote::Evidence;
 use kl_script::Reply;
+use kl_states::DropWhy;
 use std::alloc::Global;
 use std::sync::ledger::Ledger;
+
+/// Closes an open poll by what was found.
+fn finish(book: &mut Book, done: Appraised) -> Closed
+    requires { IsOpenTicket (past_of book.old) done.ticket }
+    ensures closed { IsClosed (past_of book.old) (record_by done.ticket.poll done.evidence done.signed done.finding result.current)
+        done.ticket (closed_by done.finding) result }
+    ensures history { book.new ≡ book.old ++ record_by done.ticket.poll done.evidence done.signed done.finding result.current ∷ [] }
+    ensures legal { Legal book.new }
+    ensures found { IsFound (past_of book.old) done.ticket.poll done.evidence done.signed done.finding }
+{
+    let closed = match book.finish_own(done) {
+        Ok(closed) => closed,
+        Err(_) => unreachable!(),
+    };
+    let _len = book.len();
+    closed
+}
+
+/// Drops an open poll.
+fn drop_poll(book: &mut Book, ticket: Ticket, why: DropWhy) -> Closed
+    requires { IsOpenTicket (past_of book.old) ticket }
+    ensures closed { IsClosed (past_of book.old) (Dropped ticket.poll why) ticket (ClosedAs.Dropped why) result }
+    ensures history { book.new ≡ book.old ++ Dropped ticket.poll why ∷ [] }
+    ensures legal { Legal book.new }
+{
+    let closed = match book.drop_own(ticket, why) {
+        Ok(closed) => closed,
+        Err(_) => unreachable!(),
+    };
+    let _len = book.len();
+    closed
+}
 
 /// Appraises the evidence of the reply to an open poll, and closes the poll by what is found.
 fn close_poll<Y: Keys, L: Ledger>(
@@ -34,21 +71,22 @@ fn close_poll<Y: Keys, L: Ledger>(
     steps: &mut Steps<L>,
 ) -> Closed
     requires { IsOpenTicket (past_of book.old) ticket }
-    ensures { (words : WordsTold) → (made : AnyRecord) × (book.new ≡ book.old ++ made ∷ [])
-        × Closes (outside (Y.told keys.old) words steps.old) (outside (Y.told keys.new) words steps.new) (past_of book.old) ticket evidence made result }
+    ensures closes { (words : WordsTold) → ClosesBook (outside (Y.told keys.old) words steps.old) (outside (Y.told keys.new) words steps.new)
+        book.old ticket evidence result book.new }
+    ensures legal { Legal book.new }
 {
-    let closed = match appraise_from(alloc, ticket, evidence, keys, steps) {
-        Ok(appraised) => match book.finish_own(appraised) {
-            Ok(closed) => closed,
-            Err(_) => unreachable!(),
-        },
-        Err((ticket, why)) => match book.drop_own(ticket, why) {
-            Ok(closed) => closed,
-            Err(_) => unreachable!(),
-        },
-    };
-    let _len = book.len();
-    closed
+    match appraise_from(alloc, ticket, evidence, keys, steps) {
+        Ok(appraised) => finish(book, appraised),
+        Err((ticket, why)) => drop_poll(book, ticket, why),
+    }
+}
+
+/// What is said of a poll that was closed.
+fn say_closed(alloc: Global, closed: Closed) -> Result<String, Stop>
+    ensures line { IfOk result (λ line. string_bytes line ≡ closed_line closed) }
+    ensures short { IfErr result (λ stop. stop ≡ Stop.Memory) }
+{
+    Ok(closed_line(alloc, closed)?)
 }
 
 impl Session {
@@ -62,15 +100,15 @@ impl Session {
     ) -> Result<String, Stop>
         ensures done { IfOk result (λ line. (words : WordsTold) → DoesReply (outside (Y.told keys.old) words steps.old)
             (outside (Y.told keys.new) words steps.new) (reply_fields reply) self.old self.new (string_bytes line)) }
-        ensures short { IfErr result (λ stop. (words : WordsTold) → IsShort stop self.old self.new
-            (DoesReply (outside (Y.told keys.old) words steps.old) (outside (Y.told keys.new) words steps.new) (reply_fields reply) self.old self.new)) }
-        ensures unasked { IfErr result (λ stop. (self.new ≡ self.old) → (keys.new ≡ keys.old) × (steps.new ≡ steps.old)) }
+        ensures short { IfErr result (λ stop. (words : WordsTold) → IsUndone stop (outside (Y.told keys.old) words steps.old)
+            (outside (Y.told keys.new) words steps.new) self.old self.new (DoesReply (outside (Y.told keys.old) words steps.old)
+            (outside (Y.told keys.new) words steps.new) (reply_fields reply) self.old self.new)) }
     {
         let Reply { poll, evidence } = reply;
         match take_ticket(&mut self.tickets, poll) {
             Some(ticket) => {
                 let closed = close_poll(alloc, &mut self.book, ticket, evidence, keys, steps);
-                Ok(closed_line(alloc, closed)?)
+                say_closed(alloc, closed)
             },
             None => say_refused(alloc, Refusal::NoPoll(poll)),
         }

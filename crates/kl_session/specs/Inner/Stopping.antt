@@ -12,6 +12,10 @@ use Rattle.kl_session.specs.Stopped.{DrawsNone}
 abbrev pub IsShort : Stop → SessionFields → SessionFields → (List ℕ → Type 0) → Type 0
 IsShort stop s s' Does = (stop ≡ Memory) × (((line : List ℕ) × Does line) ⊎ (s' ≡ s))
 
+-- the same, where nothing was asked of the outside before anything was done
+abbrev pub IsUndone : Stop → Outside → Outside → SessionFields → SessionFields → (List ℕ → Type 0) → Type 0
+IsUndone stop o o' s s' Does = (stop ≡ Memory) × (((line : List ℕ) × Does line) ⊎ ((s' ≡ s) × (o' ≡ o)))
+
 -- a begin was not answered: no nonce could be drawn, or memory ran out
 abbrev pub IsUnbegun : Stop → Outside → Outside → SessionFields → Begin → SessionFields → Type 0
 IsUnbegun NoNonce o o' s b s' = (s' ≡ s) × (b.nonce ≡ None) × DrawsNone o o'

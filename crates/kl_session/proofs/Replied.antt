@@ -1,0 +1,162 @@
+-- How a reply closes its poll.
+use Rattle.std.proofs.Common.{◌≡◌, ◌≢◌, ◌⊎◌, All, eqb, ℕ, ◌+◌, ◌≤◌, Bool, true, false, List, [], ◌∷◌, ◌++◌, length, Some, None, inl, inr, refl, ap, sym, ◌∙◌, subst}
+use Rattle.std.proofs.lemmas.List.Elements.{All-head}
+use Rattle.kl_entry.specs.Lines.{lines_of}
+use Rattle.kl_quote.specs.declared.evidence.Evidence.{Evidence}
+use Rattle.kl_states.specs.declared.outcome.DropWhy.{DropWhy}
+use Rattle.kl_states.specs.declared.outcome.DropWhy.TheVariants.{Keys, Memory, End}
+use Rattle.kl_appraise.specs.Asking.{Asked, AskedOnce}
+use Rattle.kl_appraise.specs.Evidence.{check_under}
+use Rattle.kl_appraise.specs.QuoteRules.{IsAnswered, IsUnasked}
+use Rattle.kl_appraise.specs.declared.judged.Outcome.{Outcome as Finding}
+use Rattle.kl_appraise.specs.declared.judged.Outcome.TheVariants as finding
+use Rattle.kl_incr.specs.Kept.{TicketFields}
+use Rattle.kl_incr.specs.Appraisal.{AppraisedFields, IsBlamed}
+use Rattle.kl_history.specs.declared.record.Record.TheVariants.{Dropped}
+use Rattle.kl_history.specs.Records.{History, Past, past_of}
+use Rattle.kl_history.specs.Legal.{IsLegalPast, Legal, Row}
+use Rattle.kl_core.specs.declared.closed.Closed.{Closed}
+use Rattle.kl_core.specs.declared.closed.ClosedAs.TheVariants as closed
+use Rattle.kl_core.specs.Closes.{IsClosed, closed_by, record_by}
+use Rattle.kl_core.proofs.OneMore.{past_of-snoc}
+use Rattle.kl_session.specs.Outside.{Outside}
+use Rattle.kl_core.specs.declared.refusal.Refusal.TheVariants.{NoPoll}
+use Rattle.kl_core.specs.Tickets.{IsOpenTicket}
+use Rattle.kl_script.specs.Commands.{ReplyFields}
+use Rattle.kl_history.specs.Records.{begins, closes, is_open}
+use Rattle.kl_session.specs.Calls.{SessionFields, past, with_more}
+use Rattle.kl_session.specs.Texts.{closed_line, says_refused}
+use Rattle.kl_session.specs.Replies.{Appraisal, Closes, ClosesPoll, DoesReply, Finds, Unanswered, Short, IsToAsk, closing_record, fields_of}
+use Rattle.kl_session.specs.Inner.Tickets.{AreTickets, Takes, poll_numbers}
+use Rattle.kl_session.proofs.Opened.{all_right, closed as without_closed, none_of}
+use Rattle.kl_session.specs.Inner.Closed.{IsFound, ClosesBook}
+
+some_same : {A : Type 0} {x y : A} → Some x ≡ Some y → x ≡ y
+some_same same = cc
+
+abbrev pub session_of : History → ℕ → SessionFields
+session_of H moment = record { history = H; moment = moment }
+
+same_session : (s t : SessionFields) → s.history ≡ t.history → s.moment ≡ t.moment → s ≡ t
+same_session s t history moment = ap (λ H. session_of H s.moment) history ∙ ap (session_of t.history) moment
+
+found_by_row : (past : Past) (p : ℕ) (e : Evidence) (s : Bool) (f : Finding) (c : Bool) → Row past (record_by p e s f c) → IsFound past p e s f
+found_by_row past p e s (finding.Verdict v) c row = row.1
+found_by_row past p e s finding.Restart c row = row.2
+
+-- a history stays legal by what was found, so the rules find it
+pub found_in : (H : History) (p : ℕ) (e : Evidence) (s : Bool) (f : Finding) (c : Bool) → Legal (H ++ record_by p e s f c ∷ []) → IsFound (past_of H) p e s f
+found_in H p e s f c legal = found_by_row (past_of H) p e s f c (subst IsLegalPast (past_of-snoc H (record_by p e s f c)) legal).1
+
+-- by what was found of the reply
+pub found_closes : (o o' : Outside) (H H' : History) (t : TicketFields) (e : Evidence) (a : AppraisedFields) (c : Closed) → a.ticket ≡ t → a.evidence ≡ e
+    → IsFound (past_of H) a.ticket.poll a.evidence a.signed a.finding
+    → IsAnswered o.keys.relations t.terms.ak (check_under t.terms t.nonce e a.signed)
+    → (IsUnasked (check_under t.terms t.nonce e false) ⊎ Asked o.keys o'.keys t.terms.ak e.quote (Some a.signed))
+    → ((o'.keys ≡ o.keys) ⊎ IsToAsk t e) → o'.words ≡ o.words → o'.steps ≤ o.steps + length (lines_of e.list)
+    → IsClosed (past_of H) (record_by a.ticket.poll a.evidence a.signed a.finding c.current) a.ticket (closed_by a.finding) c
+    → H' ≡ H ++ record_by a.ticket.poll a.evidence a.signed a.finding c.current ∷ []
+    → ClosesBook o o' H t e c H'
+found_closes o o' H H' t e a c same_t same_e found answered question unasked undrawn cost is_closed grown = (
+  record_by a.ticket.poll a.evidence a.signed a.finding c.current,
+  grown,
+  record {
+    appraisal = Finds a.signed a.finding;
+    went = record {
+      case = found.0;
+      poll_case = rw (← same_t, ← same_e) found.1;
+      outcome = found.2;
+      answered = answered;
+      asked = λ ask. elim question [ inl un ↦ absurd (ask un) | inr asked ↦ asked ];
+      spared = λ un. elim unasked [ inl same ↦ same | inr ask ↦ absurd (ask un) ];
+      cost = cost;
+    };
+    undrawn = undrawn;
+    by_record = rw (← same_t, ← same_e) refl;
+    told = rw (← same_t) is_closed;
+  },
+)
+
+-- without a finding
+pub dropped_closes : (o o' : Outside) (H H' : History) (t u : TicketFields) (e : Evidence) (why : DropWhy) (c : Closed) → u ≡ t
+    → IsBlamed why o.keys o'.keys t e → ((o'.keys ≡ o.keys) ⊎ IsToAsk t e) → ((o'.keys ≡ o.keys) ⊎ AskedOnce o.keys o'.keys t.terms.ak e.quote)
+    → o'.words ≡ o.words → o'.steps ≡ o.steps
+    → IsClosed (past_of H) (Dropped u.poll why) u (closed.Dropped why) c → H' ≡ H ++ Dropped u.poll why ∷ [] → ClosesBook o o' H t e c H'
+dropped_closes o o' H H' t u e Keys c same blamed unasked once undrawn idle is_closed grown = (
+  Dropped u.poll Keys,
+  grown,
+  record {
+    appraisal = Unanswered;
+    went = (blamed.0, blamed.1, idle);
+    undrawn = undrawn;
+    by_record = ap (λ (v : TicketFields). Dropped v.poll Keys) same;
+    told = rw (← same) is_closed;
+  },
+)
+dropped_closes o o' H H' t u e Memory c same blamed unasked once undrawn idle is_closed grown = (
+  Dropped u.poll Memory,
+  grown,
+  record {
+    appraisal = Short;
+    went = (
+      elim unasked [
+        | inl same_keys ↦ inl same_keys
+        | inr ask ↦ elim once [ inl same_keys ↦ inl same_keys | inr asked ↦ inr (ask, asked) ]
+      ],
+      blamed,
+      idle,
+    );
+    undrawn = undrawn;
+    by_record = ap (λ (v : TicketFields). Dropped v.poll Memory) same;
+    told = rw (← same) is_closed;
+  },
+)
+dropped_closes o o' H H' t u e End c same blamed unasked once undrawn idle is_closed grown = absurd blamed
+
+-- ---- the record that closes a poll
+
+closing_closes : (p : ℕ) (e : Evidence) (a : Appraisal) (c : Bool) (q : ℕ) → closes q (closing_record p e a c) ≡ eqb q p
+closing_closes p e (Finds s (finding.Verdict v)) c q = refl
+closing_closes p e (Finds s finding.Restart) c q = refl
+closing_closes p e Unanswered c q = refl
+closing_closes p e Short c q = refl
+
+closing_begins : (p : ℕ) (e : Evidence) (a : Appraisal) (c : Bool) (q : ℕ) → begins q (closing_record p e a c) ≡ false
+closing_begins p e (Finds s (finding.Verdict v)) c q = refl
+closing_begins p e (Finds s finding.Restart) c q = refl
+closing_begins p e Unanswered c q = refl
+closing_begins p e Short c q = refl
+
+-- ---- the tickets
+
+pub taken_opened : (P : TicketFields → Type 0) (ts others : List TicketFields) (t : TicketFields) → Takes ts t others → All P ts → P t
+taken_opened P ts others t taken all = All-head P t taken.1 (all_right P taken.0 (t ∷ taken.1) (subst (All P) taken.2 all))
+
+pub closed_tickets : (o o' : Outside) (H H' : History) (ts others : List TicketFields) (t : TicketFields) (e : Evidence) (c : Closed)
+    → Takes ts t others → ClosesBook o o' H t e c H' → Legal H' → AreTickets (past_of H) ts → AreTickets (past_of H') others
+closed_tickets o o' H H' ts others t e c taken b legal are =
+    let closing : (q : ℕ) → closes q b.0 ≡ eqb q t.poll = λ q. ap (closes q) b.2.by_record ∙ closing_closes t.poll e b.2.appraisal c.current q in
+    let beginning : (q : ℕ) → begins q b.0 ≡ false = λ q. ap (begins q) b.2.by_record ∙ closing_begins t.poll e b.2.appraisal c.current q in
+    rw (b.1, taken.3)
+    (without_closed H b.0 taken.0 taken.1 t (subst Legal b.1 legal) beginning closing (subst (AreTickets (past_of H)) taken.2 are))
+
+-- ---- the session
+
+pub closes_session : (o o' : Outside) (r : ReplyFields) (s s' : SessionFields) (t : TicketFields) (e : Evidence) (c : Closed) (line : List ℕ)
+    → IsOpenTicket (past s) t → fields_of t.poll e ≡ r → ClosesBook o o' s.history t e c s'.history → s'.moment ≡ s.moment → line ≡ closed_line c
+    → DoesReply o o' r s s' line
+closes_session o o' r s s' t e c line opened carries b same said = inl (record {
+  ticket = t;
+  opened = opened;
+  evidence = e;
+  carries = carries;
+  made = b.0;
+  closed = c;
+  closes = b.2;
+  after = same_session s' (with_more (b.0 ∷ []) s) b.1 same;
+  said = said;
+})
+
+pub finds_no_poll : (o : Outside) (r : ReplyFields) (s : SessionFields) (ts : List TicketFields) (line : List ℕ) → AreTickets (past s) ts → All (λ t. t.poll ≢ r.poll) ts
+    → says_refused (NoPoll r.poll) ≡ Some line → DoesReply o o r s s line
+finds_no_poll o r s ts line are none said = inr (none_of (past s) ts r.poll are none, refl, refl, sym (some_same said))

@@ -1,0 +1,80 @@
+use Rattle.std.proofs.Common.{◌≡◌, ◌++◌, ℕ, refl, ap, sym, ◌∙◌, subst, inl, inr, string_bytes, List, None}
+use Rattle.std.proofs.lemmas.Result.{IfOk-weaker, IfErr-weaker}
+use Rattle.kl_io.specs.Calls.{no_calls}
+use Rattle.kl_io.specs.Told.{WordsTold}
+use Rattle.kl_history.specs.Records.{past_of}
+use Rattle.kl_core.specs.Tickets.{IsOpenTicket}
+use Rattle.kl_script.specs.Commands.{reply_fields}
+use Rattle.kl_session.specs.declared.stop.Stop.TheVariants.{Memory}
+use Rattle.kl_session.specs.Calls.{SessionFields}
+use Rattle.kl_session.specs.Outside.{Outside, outside}
+use Rattle.kl_session.specs.Texts.{closed_line, says_refused}
+use Rattle.kl_session.specs.Replies.{DoesReply, fields_of}
+use Rattle.kl_session.specs.Inner.Stopping.{IsUndone}
+use Rattle.kl_session.proofs.Replied.{session_of, taken_opened, closed_tickets, closes_session, finds_no_poll}
+use Rattle.kl_session.proofs.session.Session.reply.Goals as goal
+
+pub close_poll-closed-requires : goal.close_poll-closed-requires
+close_poll-closed-requires g c =
+    let b = c.self.inside in
+    taken_opened (IsOpenTicket (past_of b.book)) b.tickets.items c.take_ticket.new.tickets.items c.in-Some.ticket c.in-Some.ensures.some c.self.invariant.opened
+
+pub invariant_of-self : goal.invariant_of-self
+invariant_of-self g c =
+    let b = c.self.inside in
+    let told = g.Y.Keys.told in
+    let words : WordsTold = record { left = None; calls = no_calls } in
+    closed_tickets (outside (told c.args.keys.now) words c.args.steps.now) (outside (told c.close_poll-closed.new.keys) words c.close_poll-closed.new.steps)
+    b.book c.close_poll-closed.new.book b.tickets.items c.take_ticket.new.tickets.items c.in-Some.ticket c.args.reply.evidence c.close_poll-closed.result
+    c.in-Some.ensures.some (c.close_poll-closed.ensures.closes words) c.close_poll-closed.ensures.legal c.self.invariant
+
+pub returns-in-Some-clause-done : goal.returns-in-Some-clause-done
+returns-in-Some-clause-done g c =
+    let b = c.self.inside in
+    let told = g.Y.Keys.told in
+    let o : WordsTold → Outside = λ words. outside (told c.args.keys.now) words c.args.steps.now in
+    let o' : WordsTold → Outside = λ words. outside (told c.close_poll-closed.new.keys) words c.close_poll-closed.new.steps in
+    let s : SessionFields = session_of b.book b.moment in
+    let s' : SessionFields = session_of c.close_poll-closed.new.book b.moment in
+    let t = c.in-Some.ticket in
+    let carries = ap (λ p. fields_of p c.args.reply.evidence) c.in-Some.ensures.poll in
+    rw (← c.self.view_is)
+    (IfOk-weaker c.say_closed.result _ _
+    (λ line said words. closes_session (o words) (o' words) (reply_fields c.args.reply) s s' t c.args.reply.evidence c.close_poll-closed.result (string_bytes line)
+    (taken_opened (IsOpenTicket (past_of b.book)) b.tickets.items c.take_ticket.new.tickets.items t c.in-Some.ensures.some c.self.invariant.opened)
+    carries (c.close_poll-closed.ensures.closes words) refl said)
+    c.say_closed.ensures.line)
+
+pub returns-in-Some-clause-short : goal.returns-in-Some-clause-short
+returns-in-Some-clause-short g c =
+    let b = c.self.inside in
+    let told = g.Y.Keys.told in
+    let o : WordsTold → Outside = λ words. outside (told c.args.keys.now) words c.args.steps.now in
+    let o' : WordsTold → Outside = λ words. outside (told c.close_poll-closed.new.keys) words c.close_poll-closed.new.steps in
+    let s : SessionFields = session_of b.book b.moment in
+    let s' : SessionFields = session_of c.close_poll-closed.new.book b.moment in
+    let t = c.in-Some.ticket in
+    let carries = ap (λ p. fields_of p c.args.reply.evidence) c.in-Some.ensures.poll in
+    rw (← c.self.view_is)
+    (IfErr-weaker c.say_closed.result _ _
+    (λ stop short words. (
+      short,
+      inl (
+        closed_line c.close_poll-closed.result,
+        closes_session (o words) (o' words) (reply_fields c.args.reply) s s' t c.args.reply.evidence c.close_poll-closed.result (closed_line c.close_poll-closed.result)
+            (taken_opened (IsOpenTicket (past_of b.book)) b.tickets.items c.take_ticket.new.tickets.items t c.in-Some.ensures.some c.self.invariant.opened)
+            carries (c.close_poll-closed.ensures.closes words) refl refl,
+      ),
+    ))
+    c.say_closed.ensures.short)
+
+pub returns-in-None-clause-done : goal.returns-in-None-clause-done
+returns-in-None-clause-done g c =
+    let b = c.self.inside in
+    let told = g.Y.Keys.told in
+    let o : WordsTold → Outside = λ words. outside (told c.args.keys.now) words c.args.steps.now in
+    let s : SessionFields = session_of b.book b.moment in
+    rw (← c.self.view_is)
+    (IfOk-weaker c.say_refused.result _ _
+    (λ line said words. finds_no_poll (o words) (reply_fields c.args.reply) s b.tickets.items (string_bytes line) c.self.invariant c.in-None.ensures.none said)
+    c.say_refused.ensures.line)

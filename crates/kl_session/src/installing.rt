@@ -16,7 +16,11 @@ use kl_states::AgentId;
 use std::alloc::Global;
 
 /// What is said of an install.
-fn say_installed(alloc: Global, agent: AgentId, answer: Result<u64, Refusal>) -> Result<String, Stop>
+fn say_installed(
+    alloc: Global,
+    agent: AgentId,
+    answer: Result<u64, Refusal>,
+) -> Result<String, Stop>
     ensures line { IfOk result (λ line. says_installed agent answer ≡ Some (string_bytes line)) }
     ensures short { IfErr result (λ stop. stop ≡ Stop.Memory) }
 {

@@ -10,9 +10,9 @@ ghost use Rattle.kl_session.specs.States.{SaysState};
 ghost use Rattle.kl_session.specs.Stopped.{IsStopped};
 ghost use Rattle.kl_session.specs.Inner.Tickets.{AreTickets};
 
+use crate::refusals::say_refused;
 use crate::stop::Stop;
 use crate::texts::{now_line, standing_line};
-use crate::refusals::say_refused;
 use kl_base::Memory;
 use kl_core::{Book, Refusal};
 use kl_incr::Ticket;

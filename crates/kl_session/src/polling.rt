@@ -73,7 +73,9 @@ impl Session {
         ensures short { IfErr result (λ stop. IsShort stop self.old self.new (BeginsWith agent nonce self.old self.new)) }
     {
         self.tickets.reserve(1)?;
-        match self.book.begin(&agent, nonce, self.moment) {
+        let answer = self.book.begin(&agent, nonce, self.moment);
+        let _len = self.book.len();
+        match answer {
             Ok(ticket) => {
                 let line = polled_line(alloc, &ticket);
                 self.tickets.push_reserved(ticket);

@@ -6,22 +6,18 @@ use Rattle.kl_session.specs.Texts.{polled_line}
 use Rattle.kl_session.proofs.Commands.{done_of, joined}
 use Rattle.kl_session.proofs.session.Session.begin_with.Goals as goal
 
-pub invariant_of-self-in_err-line-in-Ok : goal.invariant_of-self-in_err-line-in-Ok
-invariant_of-self-in_err-line-in-Ok c =
-    let b = c.self.inside in
-    rw (c.push_reserved.ensures.items, c.reserve.ensures.items)
-    (joined b.book c.begin-answer.new.self c.args.agent c.args.nonce b.moment c.in-Ok.ticket b.tickets.items c.in-Ok.ensures.answer c.in-Ok.ensures.history c.len-len.ensures.legal c.self.invariant)
-
-pub returns-in_err-line-in-Ok-clause-short : goal.returns-in_err-line-in-Ok-clause-short
-returns-in_err-line-in-Ok-clause-short c =
-    let b = c.self.inside in
-    let did = done_of (BeginAnswers c.args.agent c.args.nonce b.moment) (begin_makes b.moment) says_polled b.book c.begin-answer.new.self b.moment (Ok c.in-Ok.ticket) (polled_line c.in-Ok.ticket)
-        c.in-Ok.ensures.answer c.in-Ok.ensures.history refl in
-    rw (← c.self.view_is)
-    (IfErr-weaker c.from_residual-in_err-line-in-Ok.result _ _ (λ stop e. (e, inl (polled_line c.in-Ok.ticket, did))) c.from_residual-in_err-line-in-Ok.ensures)
-
 pub invariant_of-self-in-Ok : goal.invariant_of-self-in-Ok
 invariant_of-self-in-Ok c =
     let b = c.self.inside in
+    let begun = c.in-Ok.ensures in
     rw (c.push_reserved.ensures.items, c.reserve.ensures.items)
-    (joined b.book c.begin-answer.new.self c.args.agent c.args.nonce b.moment c.in-Ok.ticket b.tickets.items c.in-Ok.ensures.answer c.in-Ok.ensures.history c.len-len.ensures.legal c.self.invariant)
+    (joined b.book c.begin-answer.new.self c.args.agent c.args.nonce b.moment c.in-Ok.ticket b.tickets.items begun.answer begun.history c.len-len.ensures.legal c.self.invariant)
+
+pub returns-in-Ok-clause-short : goal.returns-in-Ok-clause-short
+returns-in-Ok-clause-short c =
+    let b = c.self.inside in
+    let begun = c.in-Ok.ensures in
+    let line = polled_line c.in-Ok.ticket in
+    let did = done_of (BeginAnswers c.args.agent c.args.nonce b.moment) (begin_makes b.moment) says_polled b.book c.begin-answer.new.self b.moment (Ok c.in-Ok.ticket) line
+        begun.answer begun.history refl in
+    rw (← c.self.view_is) (IfErr-weaker c.say_polled-line.result _ _ (λ stop e. (e, inl (line, did))) c.say_polled-line.ensures.short)

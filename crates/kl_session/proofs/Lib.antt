@@ -1,3 +1,4 @@
 pub mod Opened
 pub mod Digits
 pub mod Commands
+pub mod Obeying

@@ -1,15 +1,39 @@
 //! Agents are stopped and removed.
 
-ghost use Rattle.std.specs.Prelude.{IfOk, IfErr, string_bytes};
-ghost use Rattle.kl_session.specs.Endings.{DoesStop, DoesRemove};
+ghost use Rattle.std.specs.Prelude.{◌≡◌, IfOk, IfErr, Some, string_bytes};
+ghost use Rattle.kl_session.specs.Endings.{DoesStop, DoesRemove, says_done};
 ghost use Rattle.kl_session.specs.Inner.Stopping.{IsShort};
+ghost use Rattle.kl_session.specs.Texts.{stopped_line, removed_line};
 
 use crate::refusals::say_refused;
 use crate::session::Session;
 use crate::stop::Stop;
 use crate::texts::{removed_line, stopped_line};
+use kl_core::Refusal;
 use kl_states::AgentId;
 use std::alloc::Global;
+
+/// What is said of a stop.
+fn say_stopped(alloc: Global, agent: AgentId, answer: Result<(), Refusal>) -> Result<String, Stop>
+    ensures line { IfOk result (λ line. says_done (stopped_line agent) answer ≡ Some (string_bytes line)) }
+    ensures short { IfErr result (λ stop. stop ≡ Stop.Memory) }
+{
+    match answer {
+        Ok(()) => Ok(stopped_line(alloc, agent)?),
+        Err(why) => say_refused(alloc, why),
+    }
+}
+
+/// What is said of a removal.
+fn say_removed(alloc: Global, agent: AgentId, answer: Result<(), Refusal>) -> Result<String, Stop>
+    ensures line { IfOk result (λ line. says_done (removed_line agent) answer ≡ Some (string_bytes line)) }
+    ensures short { IfErr result (λ stop. stop ≡ Stop.Memory) }
+{
+    match answer {
+        Ok(()) => Ok(removed_line(alloc, agent)?),
+        Err(why) => say_refused(alloc, why),
+    }
+}
 
 impl Session {
     /// Stops an agent.
@@ -17,10 +41,9 @@ impl Session {
         ensures done { IfOk result (λ line. DoesStop agent self.old self.new (string_bytes line)) }
         ensures short { IfErr result (λ stop. IsShort stop self.old self.new (DoesStop agent self.old self.new)) }
     {
-        match self.book.stop(&agent) {
-            Ok(()) => Ok(stopped_line(alloc, agent)?),
-            Err(why) => say_refused(alloc, why),
-        }
+        let answer = self.book.stop(&agent);
+        let _len = self.book.len();
+        say_stopped(alloc, agent, answer)
     }
 
     /// Removes an agent.
@@ -28,9 +51,8 @@ impl Session {
         ensures done { IfOk result (λ line. DoesRemove agent self.old self.new (string_bytes line)) }
         ensures short { IfErr result (λ stop. IsShort stop self.old self.new (DoesRemove agent self.old self.new)) }
     {
-        match self.book.remove(&agent) {
-            Ok(()) => Ok(removed_line(alloc, agent)?),
-            Err(why) => say_refused(alloc, why),
-        }
+        let answer = self.book.remove(&agent);
+        let _len = self.book.len();
+        say_removed(alloc, agent, answer)
     }
 }

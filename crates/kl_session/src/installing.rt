@@ -2,7 +2,7 @@
 
 ghost use Rattle.std.specs.Prelude.{◌≡◌, ◌⊎◌, IfOk, IfErr, Some, List, ℕ, string_bytes};
 ghost use Rattle.kl_session.specs.Calls.{past};
-ghost use Rattle.kl_session.specs.Installs.{DoesAdd, DoesReplace, DoesReactivate, says_installed};
+ghost use Rattle.kl_session.specs.Installs.{DoesAdd, DoesReplace, DoesReactivate, says_installed, says_installed_or};
 ghost use Rattle.kl_session.specs.Inner.Stopping.{IsShort};
 
 use crate::naming::{NamingFault, policy_of, terms_of};
@@ -30,6 +30,21 @@ fn say_installed(
     }
 }
 
+/// What is said of an install, where a refusal hands back what was to be installed.
+fn say_installed_or<T: Drop>(
+    alloc: Global,
+    agent: AgentId,
+    answer: Result<u64, (Refusal, T)>,
+) -> Result<String, Stop>
+    ensures line { IfOk result (λ line. says_installed_or agent answer ≡ Some (string_bytes line)) }
+    ensures short { IfErr result (λ stop. stop ≡ Stop.Memory) }
+{
+    match answer {
+        Ok(generation) => Ok(installed_line(alloc, agent, generation)?),
+        Err((why, _back)) => say_refused(alloc, why),
+    }
+}
+
 impl Session {
     /// Installs an agent under the terms that an add names.
     pub(crate) fn add(&mut self, alloc: Global, add: Add) -> Result<String, Stop>
@@ -38,9 +53,10 @@ impl Session {
     {
         let agent = add.agent;
         match terms_of(alloc, add) {
-            Ok(terms) => match self.book.add(alloc, agent, terms) {
-                Ok(generation) => say_installed(alloc, agent, Ok(generation)),
-                Err((why, _terms)) => say_installed(alloc, agent, Err(why)),
+            Ok(terms) => {
+                let answer = self.book.add(alloc, agent, terms);
+                let _len = self.book.len();
+                say_installed_or(alloc, agent, answer)
             },
             Err(NamingFault::None(why)) => Ok(no_terms_line(alloc, why)?),
             Err(NamingFault::Memory) => Err(Stop::Memory),
@@ -54,9 +70,10 @@ impl Session {
     {
         let Replace { agent, policy } = replace;
         match policy_of(alloc, policy) {
-            Ok(policy) => match self.book.replace(alloc, &agent, policy) {
-                Ok(generation) => say_installed(alloc, agent, Ok(generation)),
-                Err((why, _policy)) => say_installed(alloc, agent, Err(why)),
+            Ok(policy) => {
+                let answer = self.book.replace(alloc, &agent, policy);
+                let _len = self.book.len();
+                say_installed_or(alloc, agent, answer)
             },
             Err(NamingFault::None(why)) => Ok(no_terms_line(alloc, why)?),
             Err(NamingFault::Memory) => Err(Stop::Memory),
@@ -69,6 +86,7 @@ impl Session {
         ensures short { IfErr result (λ stop. IsShort stop self.old self.new (DoesReactivate agent self.old self.new)) }
     {
         let answer = self.book.reactivate(&agent);
+        let _len = self.book.len();
         say_installed(alloc, agent, answer)
     }
 }

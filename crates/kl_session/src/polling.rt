@@ -4,6 +4,7 @@ ghost use Rattle.std.specs.Prelude.{◌≡◌, IfOk, IfErr, IfSome, None, ℕ, s
 ghost use Rattle.kl_session.specs.Outside.{outside};
 ghost use Rattle.kl_session.specs.Polls.{HasNonce, BeginsWith, DoesBegin};
 ghost use Rattle.kl_session.specs.Stopped.{DrawsNone};
+ghost use Rattle.kl_session.specs.Texts.{polled_line};
 ghost use Rattle.kl_session.specs.Inner.Stopping.{IsShort, IsUnbegun};
 ghost use Rattle.kl_keys.specs.Told.{KeysTold};
 ghost use Rattle.hex.specs.Hex.{encode_lower};
@@ -12,6 +13,7 @@ use crate::refusals::say_refused;
 use crate::session::Session;
 use crate::stop::Stop;
 use crate::texts::polled_line;
+use kl_incr::Ticket;
 use kl_io::Words;
 use kl_script::Begin;
 use kl_states::{AgentId, Nonce};
@@ -48,6 +50,14 @@ fn nonce_of<N: Words>(named: Option<Nonce>, nonces: &mut N) -> Option<Nonce>
     }
 }
 
+/// What is said of a poll that begins.
+fn say_polled(alloc: Global, ticket: &Ticket) -> Result<String, Stop>
+    ensures line { IfOk result (λ line. string_bytes line ≡ polled_line ticket.now) }
+    ensures short { IfErr result (λ stop. stop ≡ Stop.Memory) }
+{
+    Ok(polled_line(alloc, ticket)?)
+}
+
 impl Session {
     /// Begins a poll of an agent.
     pub(crate) fn begin<N: Words>(
@@ -73,11 +83,13 @@ impl Session {
         ensures short { IfErr result (λ stop. IsShort stop self.old self.new (BeginsWith agent nonce self.old self.new)) }
     {
         self.tickets.reserve(1)?;
-        match self.book.begin(&agent, nonce, self.moment) {
+        let answer = self.book.begin(&agent, nonce, self.moment);
+        let _len = self.book.len();
+        match answer {
             Ok(ticket) => {
-                let line = polled_line(alloc, &ticket);
+                let line = say_polled(alloc, &ticket);
                 self.tickets.push_reserved(ticket);
-                Ok(line?)
+                line
             },
             Err(why) => say_refused(alloc, why),
         }

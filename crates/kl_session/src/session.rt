@@ -7,6 +7,7 @@ ghost use Rattle.kl_session.specs.Outside.{outside};
 ghost use Rattle.kl_session.specs.Calls.{empty, past};
 ghost use Rattle.kl_session.specs.Session.{Does};
 ghost use Rattle.kl_session.specs.States.{SaysState};
+ghost use Rattle.kl_session.specs.Texts.{now_line};
 ghost use Rattle.kl_session.specs.Stopped.{IsStopped};
 ghost use Rattle.kl_session.specs.Inner.Tickets.{AreTickets};
 
@@ -99,7 +100,11 @@ impl Session {
     }
 
     /// Sets the moment, in milliseconds.
-    fn set_now(&mut self, alloc: Global, moment: u64) -> Result<String, Stop> {
+    fn set_now(&mut self, alloc: Global, moment: u64) -> Result<String, Stop>
+        ensures set { self.new ≡ record { history = self.old.history; moment = moment } }
+        ensures line { IfOk result (λ line. string_bytes line ≡ now_line moment) }
+        ensures short { IfErr result (λ stop. stop ≡ Stop.Memory) }
+    {
         self.moment = moment;
         Ok(now_line(alloc, moment)?)
     }

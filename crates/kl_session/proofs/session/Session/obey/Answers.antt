@@ -1,0 +1,123 @@
+use Rattle.std.proofs.Common.{◌≡◌, inl, refl}
+use Rattle.std.proofs.lemmas.Result.{IfOk-weaker, IfErr-weaker}
+use Rattle.kl_script.specs.Commands.{add, replace, reactivate, stop, remove, now, reply_fields}
+use Rattle.kl_session.specs.Outside.{outside}
+use Rattle.kl_session.specs.Installs.{DoesAdd, DoesReplace, DoesReactivate}
+use Rattle.kl_session.specs.Endings.{DoesStop, DoesRemove}
+use Rattle.kl_session.specs.Texts.{now_line}
+use Rattle.kl_session.specs.Session.{Does}
+use Rattle.kl_session.specs.declared.stop.Stop.TheVariants.{Memory}
+use Rattle.kl_session.specs.Inner.Stopping.{IsShort}
+use Rattle.kl_session.proofs.Obeying.{alone, unbegun, unanswered}
+use Rattle.kl_session.proofs.session.Session.obey.Goals as goal
+
+pub returns-in-Nothing-clause-done : goal.returns-in-Nothing-clause-done
+unfolding Does
+returns-in-Nothing-clause-done g c = rw c.in-Nothing.is (refl, refl, c.new.ensures.bytes)
+
+pub returns-in-Add-clause-done : goal.returns-in-Add-clause-done
+unfolding Does
+returns-in-Add-clause-done g c = rw c.in-Add.is (IfOk-weaker c.add.result _ _ (λ line did. (refl, did)) c.add.ensures.done)
+
+pub returns-in-Add-clause-stopped : goal.returns-in-Add-clause-stopped
+unfolding Does
+returns-in-Add-clause-stopped g c =
+    let o = outside (g.Y.Keys.told c.args.keys.now) (g.N.Words.told c.args.nonces.now) c.args.steps.now in
+    let s = c.args.self.now in
+    let s' = c.add.new.self in
+    let said = c.in-Add.add in
+    rw c.in-Add.is (alone c.add.result o s s' (add said) (DoesAdd said s s') (λ line did. (refl, did)) c.add.ensures.short)
+
+pub returns-in-Replace-clause-done : goal.returns-in-Replace-clause-done
+unfolding Does
+returns-in-Replace-clause-done g c = rw c.in-Replace.is (IfOk-weaker c.replace.result _ _ (λ line did. (refl, did)) c.replace.ensures.done)
+
+pub returns-in-Replace-clause-stopped : goal.returns-in-Replace-clause-stopped
+unfolding Does
+returns-in-Replace-clause-stopped g c =
+    let o = outside (g.Y.Keys.told c.args.keys.now) (g.N.Words.told c.args.nonces.now) c.args.steps.now in
+    let s = c.args.self.now in
+    let s' = c.replace.new.self in
+    let said = c.in-Replace.replace in
+    rw c.in-Replace.is (alone c.replace.result o s s' (replace said) (DoesReplace said s s') (λ line did. (refl, did)) c.replace.ensures.short)
+
+pub returns-in-Reactivate-clause-done : goal.returns-in-Reactivate-clause-done
+unfolding Does
+returns-in-Reactivate-clause-done g c = rw c.in-Reactivate.is (IfOk-weaker c.reactivate.result _ _ (λ line did. (refl, did)) c.reactivate.ensures.done)
+
+pub returns-in-Reactivate-clause-stopped : goal.returns-in-Reactivate-clause-stopped
+unfolding Does
+returns-in-Reactivate-clause-stopped g c =
+    let o = outside (g.Y.Keys.told c.args.keys.now) (g.N.Words.told c.args.nonces.now) c.args.steps.now in
+    let s = c.args.self.now in
+    let s' = c.reactivate.new.self in
+    let said = c.in-Reactivate.agent in
+    rw c.in-Reactivate.is (alone c.reactivate.result o s s' (reactivate said) (DoesReactivate said s s') (λ line did. (refl, did)) c.reactivate.ensures.short)
+
+pub returns-in-Stop-clause-done : goal.returns-in-Stop-clause-done
+unfolding Does
+returns-in-Stop-clause-done g c = rw c.in-Stop.is (IfOk-weaker c.stop.result _ _ (λ line did. (refl, did)) c.stop.ensures.done)
+
+pub returns-in-Stop-clause-stopped : goal.returns-in-Stop-clause-stopped
+unfolding Does
+returns-in-Stop-clause-stopped g c =
+    let o = outside (g.Y.Keys.told c.args.keys.now) (g.N.Words.told c.args.nonces.now) c.args.steps.now in
+    let s = c.args.self.now in
+    let s' = c.stop.new.self in
+    let said = c.in-Stop.agent in
+    rw c.in-Stop.is (alone c.stop.result o s s' (stop said) (DoesStop said s s') (λ line did. (refl, did)) c.stop.ensures.short)
+
+pub returns-in-Remove-clause-done : goal.returns-in-Remove-clause-done
+unfolding Does
+returns-in-Remove-clause-done g c = rw c.in-Remove.is (IfOk-weaker c.remove.result _ _ (λ line did. (refl, did)) c.remove.ensures.done)
+
+pub returns-in-Remove-clause-stopped : goal.returns-in-Remove-clause-stopped
+unfolding Does
+returns-in-Remove-clause-stopped g c =
+    let o = outside (g.Y.Keys.told c.args.keys.now) (g.N.Words.told c.args.nonces.now) c.args.steps.now in
+    let s = c.args.self.now in
+    let s' = c.remove.new.self in
+    let said = c.in-Remove.agent in
+    rw c.in-Remove.is (alone c.remove.result o s s' (remove said) (DoesRemove said s s') (λ line did. (refl, did)) c.remove.ensures.short)
+
+pub returns-in-Now-clause-done : goal.returns-in-Now-clause-done
+unfolding Does
+returns-in-Now-clause-done g c = rw c.in-Now.is (IfOk-weaker c.set_now.result _ _ (λ line said. (refl, c.set_now.ensures.set, said)) c.set_now.ensures.line)
+
+pub returns-in-Now-clause-stopped : goal.returns-in-Now-clause-stopped
+unfolding Does
+returns-in-Now-clause-stopped g c =
+    let o = outside (g.Y.Keys.told c.args.keys.now) (g.N.Words.told c.args.nonces.now) c.args.steps.now in
+    let s = c.args.self.now in
+    let s' = c.set_now.new.self in
+    let said = c.in-Now.moment in
+    rw c.in-Now.is
+    (alone c.set_now.result o s s' (now said) (λ line. line ≡ now_line said) (λ line is. (refl, c.set_now.ensures.set, is))
+    (IfErr-weaker c.set_now.result (λ stop. stop ≡ Memory) (λ stop. IsShort stop s s' (λ line. line ≡ now_line said)) (λ stop e. (e, inl (now_line said, refl))) c.set_now.ensures.short))
+
+pub returns-in-Begin-clause-done : goal.returns-in-Begin-clause-done
+unfolding Does
+returns-in-Begin-clause-done g c = rw c.in-Begin.is (IfOk-weaker c.begin.result _ _ (λ line did. did (g.Y.Keys.told c.args.keys.now) c.args.steps.now) c.begin.ensures.done)
+
+pub returns-in-Begin-clause-stopped : goal.returns-in-Begin-clause-stopped
+returns-in-Begin-clause-stopped g c =
+    let keys = g.Y.Keys.told c.args.keys.now in
+    let n = c.args.steps.now in
+    rw c.in-Begin.is
+    (IfErr-weaker c.begin.result _ _
+    (λ why short. unbegun why (outside keys (g.N.Words.told c.args.nonces.now) n) (outside keys (g.N.Words.told c.begin.new.nonces) n) c.args.self.now c.begin.new.self c.in-Begin.begin (short keys n))
+    c.begin.ensures.stopped)
+
+pub returns-in-Reply-clause-done : goal.returns-in-Reply-clause-done
+unfolding Does
+returns-in-Reply-clause-done g c = rw c.in-Reply.is (IfOk-weaker c.reply.result _ _ (λ line did. did (g.N.Words.told c.args.nonces.now)) c.reply.ensures.done)
+
+pub returns-in-Reply-clause-stopped : goal.returns-in-Reply-clause-stopped
+returns-in-Reply-clause-stopped g c =
+    rw c.in-Reply.is
+    (unanswered c.reply.result g.Y.Keys.told c.args.keys.now c.reply.new.keys (g.N.Words.told c.args.nonces.now) c.args.steps.now c.reply.new.steps c.args.self.now c.reply.new.self (reply_fields c.in-Reply.reply)
+    c.reply.ensures.short c.reply.ensures.unasked)
+
+pub returns-in-State-clause-done : goal.returns-in-State-clause-done
+unfolding Does
+returns-in-State-clause-done g c = rw c.in-State.is (IfOk-weaker c.state.result _ _ (λ line said. (refl, refl, said)) c.state.ensures.says)

@@ -1,17 +1,16 @@
 -- The words that a line was cut into, one by one, and what they spell.
-use Rattle.std.proofs.Common.{◌≡◌, ℕ, zero, suc, ◌≤◌, List, [], ◌∷◌, length, get_or, map, codes, true, refl, sym, ap, subst, ◌∙◌, arith, length-append}
+use Rattle.std.proofs.Common.{◌≡◌, ℕ, zero, suc, ◌≤◌, List, [], ◌∷◌, length, get_or, map, codes, refl, sym, ap, subst, ◌∙◌, arith, length-append}
 use Rattle.std.proofs.Math.ListN.{get_or-map}
 use Rattle.std.proofs.lemmas.List.{length-map}
-use Rattle.std.proofs.lemmas.Bool.{false≢true}
 use denote.Ref.{Bor}
-use Rattle.kl_states.specs.Names.{IsAgentId, is_agent_id_byte}
 use Rattle.kl_bank.specs.Banks.{name_of}
 use Rattle.kl_quote.specs.Size.{total_bytes}
-use Rattle.kl_script.specs.Words.{HasNo, IsEscaped, IsField, IsNumber, IsSplit}
+use Rattle.kl_script.specs.Words.{IsEscaped, IsField, IsNumber, IsSplit}
 use Rattle.kl_script.specs.Digits.{IsKey, IsMask, IsShare}
 use Rattle.kl_script.specs.Statics.{IsStatics}
 use Rattle.kl_script.specs.declared.command.Add.{Add}
-use Rattle.kl_script.specs.Commands.{ReplyFields, SpellsAdd, SpellsReply}
+use Rattle.kl_script.specs.declared.command.Replace.{Replace}
+use Rattle.kl_script.specs.Commands.{ReplyFields, SpellsAdd, SpellsAgent, SpellsReplace, SpellsReply}
 use Rattle.kl_script.proofs.Splitting.{IsSplit-same}
 use Rattle.kl_script.proofs.Escapes.{length-escaped}
 use Rattle.kl_script.proofs.Fields.{length-field}
@@ -35,7 +34,8 @@ places from (suc count) = from ∷ places (suc from) count
 abbrev pub first_words : List (Bor (List ℕ)) → ℕ → List (List ℕ)
 first_words items count = map (word items) (places 0 count)
 
-first_words-cons : (x : Bor (List ℕ)) (items : List (Bor (List ℕ))) (from count : ℕ) → map (word (x ∷ items)) (places (suc from) count) ≡ map (word items) (places from count)
+first_words-cons : (x : Bor (List ℕ)) (items : List (Bor (List ℕ))) (from count : ℕ)
+    → map (word (x ∷ items)) (places (suc from) count) ≡ map (word items) (places from count)
 first_words-cons x items from zero = refl
 first_words-cons x items from (suc count) = ap (λ (ws : List (List ℕ)). word items from ∷ ws) (first_words-cons x items (suc from) count)
 
@@ -44,7 +44,8 @@ first_words-all [] = refl
 first_words-all (x ∷ items) = ap (λ (ws : List (List ℕ)). x.now ∷ ws) (first_words-all items ∙ sym (first_words-cons x items 0 (length items)))
 
 -- a split into words, word by word
-pub split_of : {arguments rest : List ℕ} {count : ℕ} {words items : List (Bor (List ℕ))} → items ≡ words → IsSplit arguments count (map bytes_of words) rest → IsSplit arguments count (first_words items count) rest
+pub split_of : {arguments rest : List ℕ} {count : ℕ} {words items : List (Bor (List ℕ))}
+    → items ≡ words → IsSplit arguments count (map bytes_of words) rest → IsSplit arguments count (first_words items count) rest
 split_of {arguments} {rest} {count} {words} {items} e s =
     let some : length items ≡ count = sym (length-map items bytes_of) ∙ ap (λ (ws : List (Bor (List ℕ))). length (map bytes_of ws)) e ∙ s.counted in
     let all : map bytes_of words ≡ first_words items count = ap (map bytes_of) (sym e) ∙ first_words-all items ∙ ap (first_words items) some in
@@ -62,8 +63,7 @@ module _ (items : List (Bor (List ℕ))) (expected : List (List ℕ)) (same : ma
 
 -- the words and the rest spell its parts
 pub record AreAddWords (items : List (Bor (List ℕ))) (rest : List ℕ) (said : Add) : Type 0 where
-  pub agent : word items 0 ≡ said.agent
-  pub named : IsAgentId said.agent
+  pub agent : SpellsAgent (word items 0) said.agent
   pub contact : IsField (word items 1) said.contact
   pub bank : word items 2 ≡ name_of said.bank
   pub mask : IsMask (word items 3) said.mask
@@ -73,13 +73,13 @@ pub record AreAddWords (items : List (Bor (List ℕ))) (rest : List ℕ) (said :
   pub kind : word items 7 ≡ codes "flat"
   pub policy : IsEscaped rest said.policy
 
-pub add_words : {arguments rest : List ℕ} {words items : List (Bor (List ℕ))} (said : Add) → items ≡ words → IsSplit arguments 8 (map bytes_of words) rest → SpellsAdd arguments said → AreAddWords items rest said
+pub add_words : {arguments rest : List ℕ} {words items : List (Bor (List ℕ))} (said : Add)
+    → items ≡ words → IsSplit arguments 8 (map bytes_of words) rest → SpellsAdd arguments said → AreAddWords items rest said
 add_words {arguments} {rest} {words} {items} said e split s =
     let expected : List (List ℕ) = said.agent ∷ s.contact ∷ name_of said.bank ∷ s.mask ∷ s.statics ∷ s.ak ∷ s.v ∷ codes "flat" ∷ [] in
     let same = IsSplit-same arguments 8 (map bytes_of words) expected rest s.policy split s.split in
     let here : map bytes_of items ≡ expected = ap (map bytes_of) e ∙ same.0 in record {
-      agent = word_at items expected here 0;
-      named = s.is_agent;
+      agent = (word_at items expected here 0, s.is_agent);
       contact = spelled_at items expected here IsField 1 said.contact s.is_contact;
       bank = word_at items expected here 2;
       mask = spelled_at items expected here IsMask 3 said.mask s.is_mask;
@@ -90,9 +90,12 @@ add_words {arguments} {rest} {words} {items} said e split s =
       policy = subst (λ (w : List ℕ). IsEscaped w said.policy) (sym same.1) s.is_policy;
     }
 
-pub spells_add : {arguments rest : List ℕ} {words items : List (Bor (List ℕ))} (said : Add) → items ≡ words → IsSplit arguments 8 (map bytes_of words) rest → AreAddWords items rest said → SpellsAdd arguments said
+pub spells_add : {arguments rest : List ℕ} {words items : List (Bor (List ℕ))} (said : Add)
+    → items ≡ words → IsSplit arguments 8 (map bytes_of words) rest → AreAddWords items rest said → SpellsAdd arguments said
 spells_add {arguments} {rest} {words} {items} said e split w =
-    let named : first_words items 8 ≡ said.agent ∷ word items 1 ∷ name_of said.bank ∷ word items 3 ∷ word items 4 ∷ word items 5 ∷ word items 6 ∷ codes "flat" ∷ [] = cc (w.agent, w.bank, w.kind) in record {
+    let expected : List (List ℕ) =
+    said.agent ∷ word items 1 ∷ name_of said.bank ∷ word items 3 ∷ word items 4 ∷ word items 5 ∷ word items 6 ∷ codes "flat" ∷ [] in
+    let named : first_words items 8 ≡ expected = cc (w.agent.0, w.bank, w.kind) in record {
       contact = word items 1;
       mask = word items 3;
       statics = word items 4;
@@ -100,7 +103,7 @@ spells_add {arguments} {rest} {words} {items} said e split w =
       v = word items 6;
       policy = rest;
       split = subst (λ (ws : List (List ℕ)). IsSplit arguments 8 ws rest) named (split_of e split);
-      is_agent = w.named;
+      is_agent = w.agent.1;
       is_contact = w.contact;
       is_mask = w.mask;
       is_statics = w.statics;
@@ -109,23 +112,51 @@ spells_add {arguments} {rest} {words} {items} said e split w =
       is_policy = w.policy;
     }
 
+-- ---- a replace
+
+pub record AreReplaceWords (items : List (Bor (List ℕ))) (rest : List ℕ) (said : Replace) : Type 0 where
+  pub agent : SpellsAgent (word items 0) said.agent
+  pub kind : word items 1 ≡ codes "flat"
+  pub policy : IsEscaped rest said.policy
+
+pub replace_words : {arguments rest : List ℕ} {words items : List (Bor (List ℕ))} (said : Replace)
+    → items ≡ words → IsSplit arguments 2 (map bytes_of words) rest → SpellsReplace arguments said → AreReplaceWords items rest said
+replace_words {arguments} {rest} {words} {items} said e split s =
+    let expected : List (List ℕ) = said.agent ∷ codes "flat" ∷ [] in
+    let same = IsSplit-same arguments 2 (map bytes_of words) expected rest s.policy split s.split in
+    let here : map bytes_of items ≡ expected = ap (map bytes_of) e ∙ same.0 in record {
+      agent = (word_at items expected here 0, s.is_agent);
+      kind = word_at items expected here 1;
+      policy = subst (λ (w : List ℕ). IsEscaped w said.policy) (sym same.1) s.is_policy;
+    }
+
+pub spells_replace : {arguments rest : List ℕ} {words items : List (Bor (List ℕ))} (said : Replace)
+    → items ≡ words → IsSplit arguments 2 (map bytes_of words) rest → AreReplaceWords items rest said → SpellsReplace arguments said
+spells_replace {arguments} {rest} {words} {items} said e split w =
+    let named : first_words items 2 ≡ said.agent ∷ codes "flat" ∷ [] = cc (w.agent.0, w.kind) in record {
+      policy = rest;
+      split = subst (λ (ws : List (List ℕ)). IsSplit arguments 2 ws rest) named (split_of e split);
+      is_agent = w.agent.1;
+      is_policy = w.policy;
+    }
+
 -- ---- a reply
 
 pub record AreReplyWords (items : List (Bor (List ℕ))) (rest : List ℕ) (said : ReplyFields) : Type 0 where
-  pub poll : word items 0 ≡ codes "1"
+  pub poll : IsNumber (word items 0) said.poll
   pub bank : IsField (word items 1) said.bank
   pub start : IsNumber (word items 2) said.start
   pub public : IsField (word items 3) said.public
   pub quote : IsField (word items 4) said.quote
   pub list : IsEscaped rest said.list
 
-pub reply_words : {arguments rest : List ℕ} {words items : List (Bor (List ℕ))} (said : ReplyFields) → items ≡ words → IsSplit arguments 5 (map bytes_of words) rest → SpellsReply arguments said
-    → AreReplyWords items rest said
+pub reply_words : {arguments rest : List ℕ} {words items : List (Bor (List ℕ))} (said : ReplyFields)
+    → items ≡ words → IsSplit arguments 5 (map bytes_of words) rest → SpellsReply arguments said → AreReplyWords items rest said
 reply_words {arguments} {rest} {words} {items} said e split s =
-    let expected : List (List ℕ) = codes "1" ∷ s.bank ∷ s.start ∷ s.public ∷ s.quote ∷ [] in
+    let expected : List (List ℕ) = s.poll ∷ s.bank ∷ s.start ∷ s.public ∷ s.quote ∷ [] in
     let same = IsSplit-same arguments 5 (map bytes_of words) expected rest s.list split s.split in
     let here : map bytes_of items ≡ expected = ap (map bytes_of) e ∙ same.0 in record {
-      poll = word_at items expected here 0;
+      poll = spelled_at items expected here IsNumber 0 said.poll s.is_poll;
       bank = spelled_at items expected here IsField 1 said.bank s.is_bank;
       start = spelled_at items expected here IsNumber 2 said.start s.is_start;
       public = spelled_at items expected here IsField 3 said.public s.is_public;
@@ -133,16 +164,18 @@ reply_words {arguments} {rest} {words} {items} said e split s =
       list = subst (λ (w : List ℕ). IsEscaped w said.list) (sym same.1) s.is_list;
     }
 
-pub spells_reply : {arguments rest : List ℕ} {words items : List (Bor (List ℕ))} (said : ReplyFields) → items ≡ words → IsSplit arguments 5 (map bytes_of words) rest → AreReplyWords items rest said
-    → SpellsReply arguments said
+pub spells_reply : {arguments rest : List ℕ} {words items : List (Bor (List ℕ))} (said : ReplyFields)
+    → items ≡ words → IsSplit arguments 5 (map bytes_of words) rest → AreReplyWords items rest said → SpellsReply arguments said
 spells_reply {arguments} {rest} {words} {items} said e split w =
-    let named : first_words items 5 ≡ codes "1" ∷ word items 1 ∷ word items 2 ∷ word items 3 ∷ word items 4 ∷ [] = cc w.poll in record {
+    record {
+      poll = word items 0;
       bank = word items 1;
       start = word items 2;
       public = word items 3;
       quote = word items 4;
       list = rest;
-      split = subst (λ (ws : List (List ℕ)). IsSplit arguments 5 ws rest) named (split_of e split);
+      split = split_of e split;
+      is_poll = w.poll;
       is_bank = w.bank;
       is_start = w.start;
       is_public = w.public;
@@ -151,14 +184,10 @@ spells_reply {arguments} {rest} {words} {items} said e split w =
     }
 
 -- the texts of a reply are no longer than what stands behind its name
-pub reply_fits : {arguments : List ℕ} (said : ReplyFields) → SpellsReply arguments said → total_bytes said.bank said.public said.quote said.list ≤ length arguments
+pub reply_fits : {arguments : List ℕ} (said : ReplyFields) → SpellsReply arguments said
+    → total_bytes said.bank said.public said.quote said.list ≤ length arguments
 reply_fits {arguments} said s =
     let long = simp length-append at (ap length s.split.joined) in
-    omega (arith, long, length-field s.bank said.bank s.is_bank, length-field s.public said.public s.is_public, length-field s.quote said.quote s.is_quote, length-escaped s.list said.list s.is_list)
-
--- ---- a name has no space
-
-pub agent_has_no_space : (bytes : List ℕ) → IsAgentId bytes → HasNo 32 bytes
-agent_has_no_space bytes named i lt e =
-    let passes : is_agent_id_byte 32 ≡ true = subst (λ (b : ℕ). is_agent_id_byte b ≡ true) e (named.each i 0 lt) in
-    false≢true passes
+    let bank = length-field s.bank said.bank s.is_bank in
+    let public = length-field s.public said.public s.is_public in
+    omega (arith, long, bank, public, length-field s.quote said.quote s.is_quote, length-escaped s.list said.list s.is_list)

@@ -6,5 +6,7 @@ pub mod Masks
 pub mod Zips
 pub mod Faults
 pub mod Fixed
+pub mod Begins
 pub mod Arguments
+pub mod Forms
 pub mod Unique

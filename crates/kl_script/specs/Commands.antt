@@ -1,5 +1,5 @@
 -- The commands of a script, and the lines that spell them.
-use Rattle.std.specs.Prelude.{◌≡◌, ℕ, List, [], ◌∷◌, ◌++◌, codes, Result, Ok, Err, IsUtf8, ⊤}
+use Rattle.std.specs.Prelude.{◌≡◌, ◌⊎◌, ℕ, List, [], ◌∷◌, ◌++◌, codes, Option, Some, None, Result, Ok, Err, IsUtf8, ⊤}
 use Rattle.kl_states.specs.Names.{IsAgentId, IsNonce}
 use Rattle.kl_bank.specs.Banks.{name_of}
 use Rattle.kl_script.specs.declared.fault.CommandFault.{CommandFault}
@@ -8,6 +8,7 @@ use Rattle.kl_script.specs.declared.command.Command.{Command}
 use Rattle.kl_script.specs.declared.command.Command.TheVariants as commands
 use Rattle.kl_script.specs.declared.command.Add.{Add}
 use Rattle.kl_script.specs.declared.command.Begin.{Begin}
+use Rattle.kl_script.specs.declared.command.Replace.{Replace}
 use Rattle.kl_script.specs.declared.command.Reply.{Reply}
 use Rattle.kl_script.specs.Words.{IsSplit, IsEscaped, IsField, IsNumber}
 use Rattle.kl_script.specs.Digits.{IsKey, IsMask, IsShare}
@@ -15,8 +16,9 @@ use Rattle.kl_script.specs.Statics.{IsStatics}
 
 -- ---- what a command says
 
--- of a reply its parts, apart from their bound together
+-- of a reply the number of its poll and its parts, apart from their bound together
 pub record ReplyFields : Type 0 where
+  pub poll : ℕ
   pub bank : List ℕ
   pub start : ℕ
   pub public : List ℕ
@@ -24,17 +26,39 @@ pub record ReplyFields : Type 0 where
   pub list : List ℕ
 
 pub data CommandFields : Type 0 where
+  -- an empty line, or a comment
+  nothing : CommandFields
   add : Add → CommandFields
+  replace : Replace → CommandFields
+  reactivate : List ℕ → CommandFields
+  stop : List ℕ → CommandFields
+  remove : List ℕ → CommandFields
+  now : ℕ → CommandFields
   begin : Begin → CommandFields
   reply : ReplyFields → CommandFields
+  state : List ℕ → CommandFields
 
 abbrev pub reply_fields : Reply → ReplyFields
-reply_fields r = record { bank = r.evidence.bank; start = r.evidence.start; public = r.evidence.public; quote = r.evidence.quote; list = r.evidence.list }
+reply_fields r = record {
+  poll = r.poll;
+  bank = r.evidence.bank;
+  start = r.evidence.start;
+  public = r.evidence.public;
+  quote = r.evidence.quote;
+  list = r.evidence.list;
+}
 
 abbrev pub fields : Command → CommandFields
+fields commands.Nothing = nothing
 fields (commands.Add a) = add a
+fields (commands.Replace r) = replace r
+fields (commands.Reactivate a) = reactivate a
+fields (commands.Stop a) = stop a
+fields (commands.Remove a) = remove a
+fields (commands.Now t) = now t
 fields (commands.Begin b) = begin b
 fields (commands.Reply r) = reply (reply_fields r)
+fields (commands.State a) = state a
 
 -- ---- what stands behind the command's name and a space
 
@@ -55,20 +79,37 @@ pub record SpellsAdd (arguments : List ℕ) (said : Add) : Type 0 where
   pub is_v : IsShare v said.v
   pub is_policy : IsEscaped policy said.policy
 
--- the agent and the nonce
-pub record SpellsBegin (arguments : List ℕ) (said : Begin) : Type 0 where
-  pub split : arguments ≡ said.agent ++ 32 ∷ said.nonce
+-- the agent and kind of policy, and the policy as a rest
+pub record SpellsReplace (arguments : List ℕ) (said : Replace) : Type 0 where
+  pub policy : List ℕ
+  pub split : IsSplit arguments 2 (said.agent ∷ codes "flat" ∷ []) policy
   pub is_agent : IsAgentId said.agent
-  pub is_nonce : IsNonce said.nonce
+  pub is_policy : IsEscaped policy said.policy
 
--- the poll, which is 1, the bank, the number of the first entry, the public key and the quote, and the list as a rest
+-- the agent alone
+abbrev pub SpellsAgent : List ℕ → List ℕ → Type 0
+SpellsAgent arguments agent = (arguments ≡ agent) × IsAgentId agent
+
+-- the nonce behind the agent, where there is one
+abbrev pub EndsWithNonce : List ℕ → List ℕ → Option (List ℕ) → Type 0
+EndsWithNonce arguments agent None = arguments ≡ agent
+EndsWithNonce arguments agent (Some nonce) = (arguments ≡ agent ++ 32 ∷ nonce) × IsNonce nonce
+
+-- the agent, and the nonce where there is one
+pub record SpellsBegin (arguments : List ℕ) (said : Begin) : Type 0 where
+  pub split : EndsWithNonce arguments said.agent said.nonce
+  pub is_agent : IsAgentId said.agent
+
+-- the poll, the bank, the number of the first entry, the public key and the quote, and the list as a rest
 pub record SpellsReply (arguments : List ℕ) (said : ReplyFields) : Type 0 where
+  pub poll : List ℕ
   pub bank : List ℕ
   pub start : List ℕ
   pub public : List ℕ
   pub quote : List ℕ
   pub list : List ℕ
-  pub split : IsSplit arguments 5 (codes "1" ∷ bank ∷ start ∷ public ∷ quote ∷ []) list
+  pub split : IsSplit arguments 5 (poll ∷ bank ∷ start ∷ public ∷ quote ∷ []) list
+  pub is_poll : IsNumber poll said.poll
   pub is_bank : IsField bank said.bank
   pub is_start : IsNumber start said.start
   pub is_public : IsField public said.public
@@ -77,22 +118,30 @@ pub record SpellsReply (arguments : List ℕ) (said : ReplyFields) : Type 0 wher
 
 -- ---- a whole line, without its newline
 
-abbrev pub name_of_command : CommandFields → List ℕ
-name_of_command (add a) = codes "add"
-name_of_command (begin b) = codes "begin"
-name_of_command (reply r) = codes "reply"
+-- an empty line, or a comment
+abbrev pub IsBlank : List ℕ → Type 0
+IsBlank line = (line ≡ []) ⊎ ((comment : List ℕ) × (line ≡ codes "#" ++ comment))
 
-abbrev pub SpellsArguments : List ℕ → CommandFields → Type 0
-SpellsArguments arguments (add a) = SpellsAdd arguments a
-SpellsArguments arguments (begin b) = SpellsBegin arguments b
-SpellsArguments arguments (reply r) = SpellsReply arguments r
+-- the command's name, a space and what stands behind it
+abbrev pub IsNamed : List ℕ → List ℕ → (List ℕ → Type 0) → Type 0
+IsNamed line name Spelled = (arguments : List ℕ) × (line ≡ name ++ 32 ∷ arguments) × Spelled arguments
 
--- the line is UTF-8: the command's name, a space and its arguments
+abbrev pub HasForm : List ℕ → CommandFields → Type 0
+HasForm line nothing = IsBlank line
+HasForm line (add a) = IsNamed line (codes "add") (λ arguments. SpellsAdd arguments a)
+HasForm line (replace r) = IsNamed line (codes "replace") (λ arguments. SpellsReplace arguments r)
+HasForm line (reactivate a) = IsNamed line (codes "reactivate") (λ arguments. SpellsAgent arguments a)
+HasForm line (stop a) = IsNamed line (codes "stop") (λ arguments. SpellsAgent arguments a)
+HasForm line (remove a) = IsNamed line (codes "remove") (λ arguments. SpellsAgent arguments a)
+HasForm line (now t) = IsNamed line (codes "now") (λ arguments. IsNumber arguments t)
+HasForm line (begin b) = IsNamed line (codes "begin") (λ arguments. SpellsBegin arguments b)
+HasForm line (reply r) = IsNamed line (codes "reply") (λ arguments. SpellsReply arguments r)
+HasForm line (state a) = IsNamed line (codes "state") (λ arguments. SpellsAgent arguments a)
+
+-- the line is UTF-8 and has the form of the command
 pub record Spells (line : List ℕ) (command : CommandFields) : Type 0 where
   pub utf8 : IsUtf8 line
-  pub arguments : List ℕ
-  pub named : line ≡ name_of_command command ++ 32 ∷ arguments
-  pub spelled : SpellsArguments arguments command
+  pub form : HasForm line command
 
 -- a line that spells the command was read as it, unless memory ran out
 abbrev pub IsRead : Result Command CommandFault → CommandFields → Type 0

@@ -8,9 +8,26 @@ use kl_states::{AgentId, Blob, Nonce, Text};
 /// What a line of a script asks for.
 #[derive(Drop)]
 pub enum Command {
+    /// Nothing: an empty line, or a comment, which begins with `#`.
+    Nothing,
+    /// `add`, see [`Add`].
     Add(Add),
+    /// `replace`, see [`Replace`].
+    Replace(Replace),
+    /// Makes an agent live again under the terms that it has: `reactivate <agent>`.
+    Reactivate(AgentId),
+    /// Stops polling an agent: `stop <agent>`.
+    Stop(AgentId),
+    /// Takes an agent out: `remove <agent>`.
+    Remove(AgentId),
+    /// Sets the moment, in milliseconds: `now <moment>`.
+    Now(u64),
+    /// `begin`, see [`Begin`].
     Begin(Begin),
+    /// `reply`, see [`Reply`].
     Reply(Reply),
+    /// Asks how an agent stands: `state <agent>`.
+    State(AgentId),
 }
 
 /// Makes an agent known: `add <agent> <contact> <bank> <mask> <statics> <ak> <v> flat <policy>`.
@@ -34,19 +51,30 @@ pub struct Add {
     pub policy: Text,
 }
 
-/// Begins a poll of an agent: `begin <agent> <nonce>`.
+/// Gives an agent another runtime policy: `replace <agent> flat <policy>`.
+#[derive(Drop)]
+pub struct Replace {
+    /// The agent's name.
+    pub agent: AgentId,
+    /// The text of its new runtime policy, in the flat format.
+    pub policy: Text,
+}
+
+/// Begins a poll of an agent: `begin <agent> <nonce>`, or `begin <agent>`, whose nonce is drawn.
 #[derive(Drop)]
 pub struct Begin {
     /// The agent's name.
     pub agent: AgentId,
-    /// What the agent's quote has to carry.
-    pub nonce: Nonce,
+    /// What the agent's quote has to carry; None where it is to be drawn.
+    pub nonce: Option<Nonce>,
 }
 
-/// Ends the open poll by what the agent answered:
-/// `reply 1 <bank> <start> <public key> <quote> <measurement list>`.
+/// Ends an open poll by what the agent answered:
+/// `reply <poll> <bank> <start> <public key> <quote> <measurement list>`.
 #[derive(Drop)]
 pub struct Reply {
+    /// The number of the poll.
+    pub poll: u64,
     /// What the agent answered.
     pub evidence: Evidence,
 }

@@ -10,7 +10,7 @@ mod reading;
 mod statics;
 mod words;
 
-pub use command::{Add, Begin, Command, Reply};
+pub use command::{Add, Begin, Command, Replace, Reply};
 pub use fault::CommandFault;
 pub use numbers::read_number;
 pub use reading::{one_command, read_command};

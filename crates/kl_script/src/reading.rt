@@ -1,11 +1,15 @@
 //! Lines as commands.
 
-ghost use Rattle.std.specs.Prelude.{◌≡◌, ◌≤◌, ℕ, List, IfOk, Err, length};
+ghost use Rattle.std.specs.Prelude.{◌≡◌, ◌≤◌, ◌↔◌, ℕ, List, IsTrue, IfOk, OnErr, Err, length};
+ghost use Rattle.kl_states.specs.Names.{IsNonce};
 ghost use Rattle.kl_script.specs.declared.command.Add.{Add as AnyAdd};
 ghost use Rattle.kl_script.specs.declared.command.Begin.{Begin as AnyBegin};
-ghost use Rattle.kl_script.specs.Commands.{ReplyFields, CommandFields, SpellsAdd, SpellsBegin, SpellsReply, Spells, IsRead, fields, reply_fields};
+ghost use Rattle.kl_script.specs.declared.command.Replace.{Replace as AnyReplace};
+ghost use Rattle.kl_script.specs.Commands.{SpellsAdd, SpellsAgent, SpellsBegin, SpellsReplace, SpellsReply};
+ghost use Rattle.kl_script.specs.Commands.{CommandFields, ReplyFields, IsBlank, Spells, IsRead, fields, reply_fields};
+ghost use Rattle.kl_script.specs.Words.{IsNumber};
 
-use crate::command::{Add, Begin, Command, Reply};
+use crate::command::{Add, Begin, Command, Replace, Reply};
 use crate::digits::{read_key, read_mask, read_share};
 use crate::fault::CommandFault;
 use crate::numbers::read_number;
@@ -15,6 +19,30 @@ use kl_bank::Bank;
 use kl_quote::Evidence;
 use kl_states::{AgentId, Nonce, Text};
 use std::alloc::Global;
+
+/// An agent's name, and nothing else.
+fn read_agent(written: &str) -> Result<AgentId, CommandFault>
+    ensures found { IfOk result (λ agent. SpellsAgent written.now agent) }
+    ensures none { OnErr result ((agent : List ℕ) → ¬ (SpellsAgent written.now agent)) }
+{
+    AgentId::from_bytes(written.as_bytes()).ok_or(CommandFault::NoCommand)
+}
+
+/// A nonce, and nothing else.
+fn read_nonce(written: &str) -> Result<Nonce, CommandFault>
+    ensures found { IfOk result (λ nonce. (nonce ≡ written.now) × IsNonce written.now) }
+    ensures none { OnErr result (¬ (IsNonce written.now)) }
+{
+    Nonce::from_bytes(written.as_bytes()).ok_or(CommandFault::NoCommand)
+}
+
+/// What stands behind `now`.
+fn read_moment(arguments: &str) -> Result<u64, CommandFault>
+    ensures found { IfOk result (λ moment. IsNumber arguments.now moment) }
+    ensures none { OnErr result ((moment : ℕ) → ¬ (IsNumber arguments.now moment)) }
+{
+    read_number(arguments).ok_or(CommandFault::NoCommand)
+}
 
 /// What stands behind `add`.
 fn read_add(alloc: Global, arguments: &str) -> Result<Add, CommandFault>
@@ -28,9 +56,7 @@ fn read_add(alloc: Global, arguments: &str) -> Result<Add, CommandFault>
     if kind != "flat" {
         return Err(CommandFault::NoCommand);
     }
-    let Some(agent) = AgentId::from_bytes(agent.as_bytes()) else {
-        return Err(CommandFault::NoCommand);
-    };
+    let agent = read_agent(agent)?;
     let Some(bank) = Bank::from_name(bank) else {
         return Err(CommandFault::NoCommand);
     };
@@ -54,18 +80,34 @@ fn read_add(alloc: Global, arguments: &str) -> Result<Add, CommandFault>
     })
 }
 
+/// What stands behind `replace`.
+fn read_replace(alloc: Global, arguments: &str) -> Result<Replace, CommandFault>
+    ensures found { IfOk result (λ replace. SpellsReplace arguments.now replace) }
+    ensures none { result ≡ Err CommandFault.NoCommand → (said : AnyReplace) → ¬ (SpellsReplace arguments.now said) }
+{
+    let (words, policy) = split_words(alloc, arguments, 2)?;
+    let &[agent, kind] = words.as_slice() else {
+        return Err(CommandFault::NoCommand);
+    };
+    if kind != "flat" {
+        return Err(CommandFault::NoCommand);
+    }
+    let agent = read_agent(agent)?;
+    let policy = Text::new(unescape_rest(alloc, policy)?);
+    Ok(Replace { agent, policy })
+}
+
 /// What stands behind `begin`.
 fn read_begin(arguments: &str) -> Result<Begin, CommandFault>
     ensures found { IfOk result (λ begin. SpellsBegin arguments.now begin) }
     ensures none { result ≡ Err CommandFault.NoCommand → (said : AnyBegin) → ¬ (SpellsBegin arguments.now said) }
 {
-    let (agent, nonce) = cut_at(arguments, ' ')?;
-    let Some(agent) = AgentId::from_bytes(agent.as_bytes()) else {
-        return Err(CommandFault::NoCommand);
+    let Some((agent, nonce)) = arguments.split_once(' ') else {
+        let agent = read_agent(arguments)?;
+        return Ok(Begin { agent, nonce: None });
     };
-    let Some(nonce) = Nonce::from_bytes(nonce.as_bytes()) else {
-        return Err(CommandFault::NoCommand);
-    };
+    let agent = read_agent(agent)?;
+    let nonce = Some(read_nonce(nonce)?);
     Ok(Begin { agent, nonce })
 }
 
@@ -79,9 +121,9 @@ fn read_reply(alloc: Global, arguments: &str) -> Result<Reply, CommandFault>
     let &[poll, bank, start, public, quote] = words.as_slice() else {
         return Err(CommandFault::NoCommand);
     };
-    if poll != "1" {
+    let Some(poll) = read_number(poll) else {
         return Err(CommandFault::NoCommand);
-    }
+    };
     let Some(start) = read_number(start) else {
         return Err(CommandFault::NoCommand);
     };
@@ -90,9 +132,16 @@ fn read_reply(alloc: Global, arguments: &str) -> Result<Reply, CommandFault>
     let quote = read_field(alloc, quote)?;
     let list = unescape_rest(alloc, list)?;
     match Evidence::new(bank, start, public, quote, list) {
-        Some(evidence) => Ok(Reply { evidence }),
+        Some(evidence) => Ok(Reply { poll, evidence }),
         None => unreachable!(),
     }
+}
+
+/// Whether a line asks for nothing: it is empty or a comment.
+fn is_blank(line: &str) -> bool
+    ensures { IsTrue result ↔ IsBlank line.now }
+{
+    line.is_empty() || line.starts_with('#')
 }
 
 /// The command that a line of text spells.
@@ -101,11 +150,20 @@ fn read_text(alloc: Global, line: &str) -> Result<Command, CommandFault>
     ensures found { IfOk result (λ command. Spells line.now (fields command)) }
     ensures none { result ≡ Err CommandFault.NoCommand → (said : CommandFields) → ¬ (Spells line.now said) }
 {
+    if is_blank(line) {
+        return Ok(Command::Nothing);
+    }
     let (name, arguments) = cut_at(line, ' ')?;
     match name {
         "add" => Ok(Command::Add(read_add(alloc, arguments)?)),
+        "replace" => Ok(Command::Replace(read_replace(alloc, arguments)?)),
+        "reactivate" => Ok(Command::Reactivate(read_agent(arguments)?)),
+        "stop" => Ok(Command::Stop(read_agent(arguments)?)),
+        "remove" => Ok(Command::Remove(read_agent(arguments)?)),
+        "now" => Ok(Command::Now(read_moment(arguments)?)),
         "begin" => Ok(Command::Begin(read_begin(arguments)?)),
         "reply" => Ok(Command::Reply(read_reply(alloc, arguments)?)),
+        "state" => Ok(Command::State(read_agent(arguments)?)),
         _ => Err(CommandFault::NoCommand),
     }
 }
@@ -114,13 +172,18 @@ fn read_text(alloc: Global, line: &str) -> Result<Command, CommandFault>
 ///
 /// The words of a line have one space between two. The commands are
 ///
+/// - nothing: an empty line, or a comment, which begins with `#`
 /// - `add <agent> <contact> <bank> <mask> <statics> <ak> <v> flat <policy>`
-/// - `begin <agent> <nonce>`
-/// - `reply 1 <bank> <start> <public key> <quote> <measurement list>`
+/// - `replace <agent> flat <policy>`
+/// - `reactivate <agent>`, `stop <agent>`, `remove <agent>` and `state <agent>`
+/// - `now <moment>`
+/// - `begin <agent> <nonce>`, or `begin <agent>` for a nonce that is drawn
+/// - `reply <poll> <bank> <start> <public key> <quote> <measurement list>`
 ///
-/// The contact, the bank of a reply, the public key and the quote are fields, and the policy and the
-/// measurement list are rests, which go to the line's end. The error is `NoCommand` for every other
-/// line, and for one that is not UTF-8.
+/// The contact, the bank of a reply, the public key and the quote are fields, and a policy and a
+/// measurement list are rests, which go to the line's end. A moment, a poll and a start are decimal
+/// numbers below 2^64. The error is `NoCommand` for every other line, and for one that is not UTF-8,
+/// be it a comment.
 pub fn read_command(alloc: Global, line: &[u8]) -> Result<Command, CommandFault>
     requires { length line.now ≤ 16777216 }
     ensures found { IfOk result (λ command. Spells line.now (fields command)) }

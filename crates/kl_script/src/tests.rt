@@ -2,50 +2,94 @@ use super::*;
 use std::alloc::Global;
 use std::test::*;
 
-/// Lines that spell a command: each command, and its parts at their edges.
-const COMMANDS: &str = "begin a1 n1
-add node-1.b host\\sone:9002 sha384 0x0a0400 0=00112233445566778899AABBCCDDEEFF00112233,aa00000000000000000000000000000000000000000000000000000000000001;23=bb0000000000000000000000000000000000000000000000000000000000000000000000000000000000000000000002 00Ff aa00000000000000000000000000000000000000000000000000000000000001 flat two  words\\nand \\\\\\s
-reply 1 sha256 0 p q \nreply 1 \\0 18446744073709551615 \\\\ \\s\\n 10 a\\n  b
-add a1 h sha1 0x0 - 00 - flat \nadd a1 h sha256 0xFFffFF 9=00112233445566778899aabbccddeeff00112233 00 - flat x";
+/// Lines by the command that they spell: each command, and its parts at their edges.
+const LINES: [(&str, &str); 11] = [
+    (
+        "nothing",
+        "\n#\n# a comment\n#stop a1\n# \u{e9} \u{1f511} \r\t\\x",
+    ),
+    (
+        "add",
+        "add node-1.b host\\sone:9002 sha384 0x0a0400 0=00112233445566778899AABBCCDDEEFF00112233,aa00000000000000000000000000000000000000000000000000000000000001;23=bb0000000000000000000000000000000000000000000000000000000000000000000000000000000000000000000002 00Ff aa00000000000000000000000000000000000000000000000000000000000001 flat two  words\\nand \\\\\\s
+add a1 h sha1 0x0 - 00 - flat \nadd a1 h sha256 0xFFffFF 9=00112233445566778899aabbccddeeff00112233 00 - flat x",
+    ),
+    (
+        "replace",
+        "replace a1 flat \nreplace a1 flat  \nreplace node-1.b flat two  words\\nand \\\\\\s flat",
+    ),
+    ("reactivate", "reactivate a1"),
+    (
+        "stop",
+        "stop a1\nstop _\nstop aaaaaaaaaaaaaaaaaaaaaaaaaaaaaaaaaaaaaaaaaaaaaaaaaaaaaaaaaaaaaaaa",
+    ),
+    ("remove", "remove a1"),
+    ("now", "now 0\nnow 10\nnow 18446744073709551615"),
+    ("begin", "begin a1 n1\nbegin a1\nbegin A.b_- 0z"),
+    (
+        "reply",
+        "reply 1 sha256 0 p q \nreply 0 sha256 0 p q \nreply 18446744073709551615 sha256 0 p q x
+reply 10 \\0 18446744073709551615 \\\\ \\s\\n 10 a\\n  b",
+    ),
+    ("state", "state a1"),
+    ("none", OTHERS),
+];
 
 /// Lines that spell none: each part of a command out of its form.
-const OTHERS: &str = "
-# a comment
-lose 1
-begin a1
-begin a1 n1 \nbegin  a1 n1
- begin a1 n1
-Begin a1 n1
-begin a/1 n1
-begin a1 n-1
-reply 1 sha256 0 p q
-reply 2 sha256 0 p q \nreply 1 sha256 00 p q \nreply 1 sha256 +1 p q \nreply 1 sha256 18446744073709551616 p q \nreply 1 sha256 0 p\\0 q \nadd a1 h sha1 0x0 - 00 - flat
+const OTHERS: &str =
+    " \n #\n\r\nlose 1\nadd\nnow\nreply\nstop\nstop \nstops a1\nStop a1\nsto a1\n stop a1\nstop  a1\nstop a1 \nstop a b\nstop a/1\nstop\ta1
+stop aaaaaaaaaaaaaaaaaaaaaaaaaaaaaaaaaaaaaaaaaaaaaaaaaaaaaaaaaaaaaaaaa
+reactivate\nreactivate a1 flat\nreactivate a1 \nremove \nremove a1 n1\nstate\nstate a1 1\nstate a1\r
+now \nnow 01\nnow 00\nnow -1\nnow +1\nnow 1 \nnow  1\nnow 1 2\nnow 1.5\nnow 0x1\nnow 18446744073709551616
+replace a1 flat\nreplace a1 json x\nreplace a1 Flat x\nreplace a1 flatx x\nreplace a1  flat x\nreplace  flat x\nreplace a/1 flat x\nreplace flat x\nreplace a1 flat x\\
+begin\nbegin \nbegin a1 \nbegin a1  n\nbegin a1 n1 \nbegin a1 n1 n2\nbegin  a1 n1\nbegin  n1\n begin a1 n1\nBegin a1 n1\nbegin a/1 n1\nbegin a1 n-1\nbegin a/1
+reply 1 sha256 0 p q\nreply x sha256 0 p q \nreply 01 sha256 0 p q \nreply +1 sha256 0 p q \nreply 18446744073709551616 sha256 0 p q \nreply  sha256 0 p q \nreply 1 sha256 00 p q \nreply 1 sha256 +1 p q \nreply 1 sha256 18446744073709551616 p q \nreply 1 sha256 0 p\\0 q \nreply 1 sha256 0 p q \\0
+add a1 h sha1 0x0 - 00 - flat
 add a1 h sha1 0x0 - 00 - json {}
 add a1 h sha512 0x0 - 00 - flat \nadd a1 h\\t sha1 0x0 - 00 - flat \nadd a1 h sha1 0x0 - 00 - flat \\0
 add a1 h sha1 0x0 - 00 - flat x\\
 add a1  sha1 0x0 - 00 - flat \nadd a1 h sha1 10400 - 00 - flat \nadd a1 h sha1 0x - 00 - flat \nadd a1 h sha1 0X1 - 00 - flat \nadd a1 h sha1 0x+1 - 00 - flat \nadd a1 h sha1 0x1234567 - 00 - flat \nadd a1 h sha1 0x0 24=00112233445566778899aabbccddeeff00112233 00 - flat \nadd a1 h sha1 0x0 09=00112233445566778899aabbccddeeff00112233 00 - flat \nadd a1 h sha1 0x0 9=00112233445566778899aabbccddeeff001122 00 - flat \nadd a1 h sha1 0x0 9=00112233445566778899aabbccddeeff00112233, 00 - flat \nadd a1 h sha1 0x0 9=00112233445566778899aabbccddeeff00112233; 00 - flat \nadd a1 h sha1 0x0 9= 00 - flat \nadd a1 h sha1 0x0 - 0 - flat \nadd a1 h sha1 0x0 - 000 - flat \nadd a1 h sha1 0x0 - 0g - flat \nadd a1 h sha1 0x0 - - - flat \nadd a1 h sha1 0x0 - 00 aa0000000000000000000000000000000000000000000000000000000000001 flat \nadd a1 h sha1 0x0 - 00 aa000000000000000000000000000000000000000000000000000000000001 flat \nadd a1 h sha1 0x0 - 00 -- flat ";
 
-/// Whether a line spells a command; None where memory ran out, or the line is longer than a line may be.
-fn is_command(alloc: Global, line: &[u8]) -> Option<bool> {
+/// Lines that are no text.
+const NO_TEXTS: [&[u8]; 3] = [b"# \xff", b"#\xc3", b"stop \xe9"];
+
+/// The name of the command that a line spells, and `none` where it spells none; None where memory ran
+/// out, or the line is longer than a line may be.
+fn name_of(alloc: Global, line: &[u8]) -> Option<&'static str> {
     if line.len() > 16_777_216 {
         return None;
     }
     match read_command(alloc, line) {
-        Ok(_) => Some(true),
-        Err(CommandFault::NoCommand) => Some(false),
+        Ok(Command::Nothing) => Some("nothing"),
+        Ok(Command::Add(_)) => Some("add"),
+        Ok(Command::Replace(_)) => Some("replace"),
+        Ok(Command::Reactivate(_)) => Some("reactivate"),
+        Ok(Command::Stop(_)) => Some("stop"),
+        Ok(Command::Remove(_)) => Some("remove"),
+        Ok(Command::Now(_)) => Some("now"),
+        Ok(Command::Begin(_)) => Some("begin"),
+        Ok(Command::Reply(_)) => Some("reply"),
+        Ok(Command::State(_)) => Some("state"),
+        Err(CommandFault::NoCommand) => Some("none"),
         Err(CommandFault::Memory) => None,
     }
 }
 
 #[test]
 fn which_lines_are_commands(rt: HostRuntime) {
-    for (lines, good) in [(COMMANDS, true), (OTHERS, false)] {
+    for (name, lines) in LINES {
         for line in lines.split('\n') {
             assert!(rt;
-                is_command(rt.alloc(), line.as_bytes()) == Some(good),
+                name_of(rt.alloc(), line.as_bytes()) == Some(name),
                 "{line}"
             );
         }
+    }
+}
+
+#[test]
+fn a_line_that_is_no_text_is_no_command(rt: HostRuntime) {
+    for line in NO_TEXTS {
+        assert!(rt; name_of(rt.alloc(), line) == Some("none"));
     }
 }
 
@@ -61,7 +105,7 @@ fn reply_with(alloc: Global, bytes: usize) -> Result<Vec<u8>, Fail> {
 fn a_line_of_the_greatest_length_is_read(rt: HostRuntime) -> Result<(), Fail> {
     let line = reply_with(rt.alloc(), 16_777_195)?;
     assert!(rt; line.len() == 16_777_216);
-    assert!(rt; is_command(rt.alloc(), line.as_slice()) == Some(true));
+    assert!(rt; name_of(rt.alloc(), line.as_slice()) == Some("reply"));
     Ok(())
 }
 

@@ -52,23 +52,30 @@ add a1  sha1 0x0 - 00 - flat \nadd a1 h sha1 10400 - 00 - flat \nadd a1 h sha1 0
 /// Lines that are no text.
 const NO_TEXTS: [&[u8]; 3] = [b"# \xff", b"#\xc3", b"stop \xe9"];
 
+/// The name of a command.
+fn name_of(command: &Command) -> &'static str {
+    match command {
+        Command::Nothing => "nothing",
+        Command::Add(_) => "add",
+        Command::Replace(_) => "replace",
+        Command::Reactivate(_) => "reactivate",
+        Command::Stop(_) => "stop",
+        Command::Remove(_) => "remove",
+        Command::Now(_) => "now",
+        Command::Begin(_) => "begin",
+        Command::Reply(_) => "reply",
+        Command::State(_) => "state",
+    }
+}
+
 /// The name of the command that a line spells, and `none` where it spells none; None where memory ran
 /// out, or the line is longer than a line may be.
-fn name_of(alloc: Global, line: &[u8]) -> Option<&'static str> {
+fn name_in(alloc: Global, line: &[u8]) -> Option<&'static str> {
     if line.len() > 16_777_216 {
         return None;
     }
     match read_command(alloc, line) {
-        Ok(Command::Nothing) => Some("nothing"),
-        Ok(Command::Add(_)) => Some("add"),
-        Ok(Command::Replace(_)) => Some("replace"),
-        Ok(Command::Reactivate(_)) => Some("reactivate"),
-        Ok(Command::Stop(_)) => Some("stop"),
-        Ok(Command::Remove(_)) => Some("remove"),
-        Ok(Command::Now(_)) => Some("now"),
-        Ok(Command::Begin(_)) => Some("begin"),
-        Ok(Command::Reply(_)) => Some("reply"),
-        Ok(Command::State(_)) => Some("state"),
+        Ok(command) => Some(name_of(&command)),
         Err(CommandFault::NoCommand) => Some("none"),
         Err(CommandFault::Memory) => None,
     }
@@ -79,7 +86,7 @@ fn which_lines_are_commands(rt: HostRuntime) {
     for (name, lines) in LINES {
         for line in lines.split('\n') {
             assert!(rt;
-                name_of(rt.alloc(), line.as_bytes()) == Some(name),
+                name_in(rt.alloc(), line.as_bytes()) == Some(name),
                 "{line}"
             );
         }
@@ -89,7 +96,7 @@ fn which_lines_are_commands(rt: HostRuntime) {
 #[test]
 fn a_line_that_is_no_text_is_no_command(rt: HostRuntime) {
     for line in NO_TEXTS {
-        assert!(rt; name_of(rt.alloc(), line) == Some("none"));
+        assert!(rt; name_in(rt.alloc(), line) == Some("none"));
     }
 }
 
@@ -105,7 +112,7 @@ fn reply_with(alloc: Global, bytes: usize) -> Result<Vec<u8>, Fail> {
 fn a_line_of_the_greatest_length_is_read(rt: HostRuntime) -> Result<(), Fail> {
     let line = reply_with(rt.alloc(), 16_777_195)?;
     assert!(rt; line.len() == 16_777_216);
-    assert!(rt; name_of(rt.alloc(), line.as_slice()) == Some("reply"));
+    assert!(rt; name_in(rt.alloc(), line.as_slice()) == Some("reply"));
     Ok(())
 }
 

@@ -10,7 +10,10 @@ const LINES: [(&str, &str); 11] = [
     ),
     (
         "add",
-        "add node-1.b host\\sone:9002 sha384 0x0a0400 0=00112233445566778899AABBCCDDEEFF00112233,aa00000000000000000000000000000000000000000000000000000000000001;23=bb0000000000000000000000000000000000000000000000000000000000000000000000000000000000000000000002 00Ff aa00000000000000000000000000000000000000000000000000000000000001 flat two  words\\nand \\\\\\s
+        "add node-1.b host\\sone:9002 sha384 0x0a0400 0=00112233445566778899AABBCCDDEEFF00112233,\
+aa00000000000000000000000000000000000000000000000000000000000001;\
+23=bb0000000000000000000000000000000000000000000000000000000000000000000000000000000000000000000002 \
+00Ff aa00000000000000000000000000000000000000000000000000000000000001 flat two  words\\nand \\\\\\s
 add a1 h sha1 0x0 - 00 - flat \nadd a1 h sha256 0xFFffFF 9=00112233445566778899aabbccddeeff00112233 00 - flat x",
     ),
     (
@@ -40,14 +43,27 @@ const OTHERS: &str =
 stop aaaaaaaaaaaaaaaaaaaaaaaaaaaaaaaaaaaaaaaaaaaaaaaaaaaaaaaaaaaaaaaaa
 reactivate\nreactivate a1 flat\nreactivate a1 \nremove \nremove a1 n1\nstate\nstate a1 1\nstate a1\r
 now \nnow 01\nnow 00\nnow -1\nnow +1\nnow 1 \nnow  1\nnow 1 2\nnow 1.5\nnow 0x1\nnow 18446744073709551616
-replace a1 flat\nreplace a1 json x\nreplace a1 Flat x\nreplace a1 flatx x\nreplace a1  flat x\nreplace  flat x\nreplace a/1 flat x\nreplace flat x\nreplace a1 flat x\\
-begin\nbegin \nbegin a1 \nbegin a1  n\nbegin a1 n1 \nbegin a1 n1 n2\nbegin  a1 n1\nbegin  n1\n begin a1 n1\nBegin a1 n1\nbegin a/1 n1\nbegin a1 n-1\nbegin a/1
-reply 1 sha256 0 p q\nreply x sha256 0 p q \nreply 01 sha256 0 p q \nreply +1 sha256 0 p q \nreply 18446744073709551616 sha256 0 p q \nreply  sha256 0 p q \nreply 1 sha256 00 p q \nreply 1 sha256 +1 p q \nreply 1 sha256 18446744073709551616 p q \nreply 1 sha256 0 p\\0 q \nreply 1 sha256 0 p q \\0
+replace a1 flat\nreplace a1 json x\nreplace a1 Flat x\nreplace a1 flatx x\nreplace a1  flat x\nreplace  flat x\nreplace a/1 flat x\n\
+replace flat x\nreplace a1 flat x\\
+begin\nbegin \nbegin a1 \nbegin a1  n\nbegin a1 n1 \nbegin a1 n1 n2\nbegin  a1 n1\nbegin  n1\n begin a1 n1\nBegin a1 n1\nbegin a/1 n1\n\
+begin a1 n-1\nbegin a/1
+reply 1 sha256 0 p q\nreply x sha256 0 p q \nreply 01 sha256 0 p q \nreply +1 sha256 0 p q \nreply 18446744073709551616 sha256 0 p q \n\
+reply  sha256 0 p q \nreply 1 sha256 00 p q \nreply 1 sha256 +1 p q \nreply 1 sha256 18446744073709551616 p q \nreply 1 sha256 0 p\\0 q \n\
+reply 1 sha256 0 p q \\0
 add a1 h sha1 0x0 - 00 - flat
 add a1 h sha1 0x0 - 00 - json {}
 add a1 h sha512 0x0 - 00 - flat \nadd a1 h\\t sha1 0x0 - 00 - flat \nadd a1 h sha1 0x0 - 00 - flat \\0
 add a1 h sha1 0x0 - 00 - flat x\\
-add a1  sha1 0x0 - 00 - flat \nadd a1 h sha1 10400 - 00 - flat \nadd a1 h sha1 0x - 00 - flat \nadd a1 h sha1 0X1 - 00 - flat \nadd a1 h sha1 0x+1 - 00 - flat \nadd a1 h sha1 0x1234567 - 00 - flat \nadd a1 h sha1 0x0 24=00112233445566778899aabbccddeeff00112233 00 - flat \nadd a1 h sha1 0x0 09=00112233445566778899aabbccddeeff00112233 00 - flat \nadd a1 h sha1 0x0 9=00112233445566778899aabbccddeeff001122 00 - flat \nadd a1 h sha1 0x0 9=00112233445566778899aabbccddeeff00112233, 00 - flat \nadd a1 h sha1 0x0 9=00112233445566778899aabbccddeeff00112233; 00 - flat \nadd a1 h sha1 0x0 9= 00 - flat \nadd a1 h sha1 0x0 - 0 - flat \nadd a1 h sha1 0x0 - 000 - flat \nadd a1 h sha1 0x0 - 0g - flat \nadd a1 h sha1 0x0 - - - flat \nadd a1 h sha1 0x0 - 00 aa0000000000000000000000000000000000000000000000000000000000001 flat \nadd a1 h sha1 0x0 - 00 aa000000000000000000000000000000000000000000000000000000000001 flat \nadd a1 h sha1 0x0 - 00 -- flat ";
+add a1  sha1 0x0 - 00 - flat \nadd a1 h sha1 10400 - 00 - flat \nadd a1 h sha1 0x - 00 - flat \nadd a1 h sha1 0X1 - 00 - flat \n\
+add a1 h sha1 0x+1 - 00 - flat \nadd a1 h sha1 0x1234567 - 00 - flat \n\
+add a1 h sha1 0x0 24=00112233445566778899aabbccddeeff00112233 00 - flat \n\
+add a1 h sha1 0x0 09=00112233445566778899aabbccddeeff00112233 00 - flat \n\
+add a1 h sha1 0x0 9=00112233445566778899aabbccddeeff001122 00 - flat \n\
+add a1 h sha1 0x0 9=00112233445566778899aabbccddeeff00112233, 00 - flat \n\
+add a1 h sha1 0x0 9=00112233445566778899aabbccddeeff00112233; 00 - flat \nadd a1 h sha1 0x0 9= 00 - flat \nadd a1 h sha1 0x0 - 0 - flat \n\
+add a1 h sha1 0x0 - 000 - flat \nadd a1 h sha1 0x0 - 0g - flat \nadd a1 h sha1 0x0 - - - flat \n\
+add a1 h sha1 0x0 - 00 aa0000000000000000000000000000000000000000000000000000000000001 flat \n\
+add a1 h sha1 0x0 - 00 aa000000000000000000000000000000000000000000000000000000000001 flat \nadd a1 h sha1 0x0 - 00 -- flat ";
 
 /// Lines that are no text.
 const NO_TEXTS: [&[u8]; 3] = [b"# \xff", b"#\xc3", b"stop \xe9"];

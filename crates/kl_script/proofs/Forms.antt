@@ -4,11 +4,8 @@ use Rattle.std.proofs.Common.{refl, sym, ap, subst, ◌∙◌, arith}
 use Rattle.std.specs.List.{list_all}
 use Rattle.std.proofs.lemmas.Bool.{false≢true, eqb-false}
 use Rattle.std.proofs.lemmas.List.Sums.{AllPass-from_list_all}
-use Rattle.kl_script.specs.declared.command.Add.{Add}
-use Rattle.kl_script.specs.declared.command.Begin.{Begin}
-use Rattle.kl_script.specs.declared.command.Replace.{Replace}
 use Rattle.kl_script.specs.Words.{HasNo, IsNumber}
-use Rattle.kl_script.specs.Commands.{ReplyFields, CommandFields, nothing, add, replace, reactivate, stop, remove, now, begin, reply, state}
+use Rattle.kl_script.specs.Commands.{CommandFields, nothing, add, replace, reactivate, stop, remove, now, begin, reply, state}
 use Rattle.kl_script.specs.Commands.{SpellsAdd, SpellsReplace, SpellsAgent, SpellsBegin, SpellsReply, IsBlank, IsNamed, HasForm, Spells}
 use Rattle.kl_script.proofs.Splitting.{heads, same_word, no_word}
 

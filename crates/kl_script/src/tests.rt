@@ -10,7 +10,10 @@ const LINES: [(&str, &str); 11] = [
     ),
     (
         "add",
-        "add node-1.b host\\sone:9002 sha384 0x0a0400 0=00112233445566778899AABBCCDDEEFF00112233,aa00000000000000000000000000000000000000000000000000000000000001;23=bb0000000000000000000000000000000000000000000000000000000000000000000000000000000000000000000002 00Ff aa00000000000000000000000000000000000000000000000000000000000001 flat two  words\\nand \\\\\\s
+        "add node-1.b host\\sone:9002 sha384 0x0a0400 0=00112233445566778899AABBCCDDEEFF00112233,\
+aa00000000000000000000000000000000000000000000000000000000000001;\
+23=bb0000000000000000000000000000000000000000000000000000000000000000000000000000000000000000000002 \
+00Ff aa00000000000000000000000000000000000000000000000000000000000001 flat two  words\\nand \\\\\\s
 add a1 h sha1 0x0 - 00 - flat \nadd a1 h sha256 0xFFffFF 9=00112233445566778899aabbccddeeff00112233 00 - flat x",
     ),
     (
@@ -40,35 +43,55 @@ const OTHERS: &str =
 stop aaaaaaaaaaaaaaaaaaaaaaaaaaaaaaaaaaaaaaaaaaaaaaaaaaaaaaaaaaaaaaaaa
 reactivate\nreactivate a1 flat\nreactivate a1 \nremove \nremove a1 n1\nstate\nstate a1 1\nstate a1\r
 now \nnow 01\nnow 00\nnow -1\nnow +1\nnow 1 \nnow  1\nnow 1 2\nnow 1.5\nnow 0x1\nnow 18446744073709551616
-replace a1 flat\nreplace a1 json x\nreplace a1 Flat x\nreplace a1 flatx x\nreplace a1  flat x\nreplace  flat x\nreplace a/1 flat x\nreplace flat x\nreplace a1 flat x\\
-begin\nbegin \nbegin a1 \nbegin a1  n\nbegin a1 n1 \nbegin a1 n1 n2\nbegin  a1 n1\nbegin  n1\n begin a1 n1\nBegin a1 n1\nbegin a/1 n1\nbegin a1 n-1\nbegin a/1
-reply 1 sha256 0 p q\nreply x sha256 0 p q \nreply 01 sha256 0 p q \nreply +1 sha256 0 p q \nreply 18446744073709551616 sha256 0 p q \nreply  sha256 0 p q \nreply 1 sha256 00 p q \nreply 1 sha256 +1 p q \nreply 1 sha256 18446744073709551616 p q \nreply 1 sha256 0 p\\0 q \nreply 1 sha256 0 p q \\0
+replace a1 flat\nreplace a1 json x\nreplace a1 Flat x\nreplace a1 flatx x\nreplace a1  flat x\nreplace  flat x\nreplace a/1 flat x\n\
+replace flat x\nreplace a1 flat x\\
+begin\nbegin \nbegin a1 \nbegin a1  n\nbegin a1 n1 \nbegin a1 n1 n2\nbegin  a1 n1\nbegin  n1\n begin a1 n1\nBegin a1 n1\nbegin a/1 n1\n\
+begin a1 n-1\nbegin a/1
+reply 1 sha256 0 p q\nreply x sha256 0 p q \nreply 01 sha256 0 p q \nreply +1 sha256 0 p q \nreply 18446744073709551616 sha256 0 p q \n\
+reply  sha256 0 p q \nreply 1 sha256 00 p q \nreply 1 sha256 +1 p q \nreply 1 sha256 18446744073709551616 p q \nreply 1 sha256 0 p\\0 q \n\
+reply 1 sha256 0 p q \\0
 add a1 h sha1 0x0 - 00 - flat
 add a1 h sha1 0x0 - 00 - json {}
 add a1 h sha512 0x0 - 00 - flat \nadd a1 h\\t sha1 0x0 - 00 - flat \nadd a1 h sha1 0x0 - 00 - flat \\0
 add a1 h sha1 0x0 - 00 - flat x\\
-add a1  sha1 0x0 - 00 - flat \nadd a1 h sha1 10400 - 00 - flat \nadd a1 h sha1 0x - 00 - flat \nadd a1 h sha1 0X1 - 00 - flat \nadd a1 h sha1 0x+1 - 00 - flat \nadd a1 h sha1 0x1234567 - 00 - flat \nadd a1 h sha1 0x0 24=00112233445566778899aabbccddeeff00112233 00 - flat \nadd a1 h sha1 0x0 09=00112233445566778899aabbccddeeff00112233 00 - flat \nadd a1 h sha1 0x0 9=00112233445566778899aabbccddeeff001122 00 - flat \nadd a1 h sha1 0x0 9=00112233445566778899aabbccddeeff00112233, 00 - flat \nadd a1 h sha1 0x0 9=00112233445566778899aabbccddeeff00112233; 00 - flat \nadd a1 h sha1 0x0 9= 00 - flat \nadd a1 h sha1 0x0 - 0 - flat \nadd a1 h sha1 0x0 - 000 - flat \nadd a1 h sha1 0x0 - 0g - flat \nadd a1 h sha1 0x0 - - - flat \nadd a1 h sha1 0x0 - 00 aa0000000000000000000000000000000000000000000000000000000000001 flat \nadd a1 h sha1 0x0 - 00 aa000000000000000000000000000000000000000000000000000000000001 flat \nadd a1 h sha1 0x0 - 00 -- flat ";
+add a1  sha1 0x0 - 00 - flat \nadd a1 h sha1 10400 - 00 - flat \nadd a1 h sha1 0x - 00 - flat \nadd a1 h sha1 0X1 - 00 - flat \n\
+add a1 h sha1 0x+1 - 00 - flat \nadd a1 h sha1 0x1234567 - 00 - flat \n\
+add a1 h sha1 0x0 24=00112233445566778899aabbccddeeff00112233 00 - flat \n\
+add a1 h sha1 0x0 09=00112233445566778899aabbccddeeff00112233 00 - flat \n\
+add a1 h sha1 0x0 9=00112233445566778899aabbccddeeff001122 00 - flat \n\
+add a1 h sha1 0x0 9=00112233445566778899aabbccddeeff00112233, 00 - flat \n\
+add a1 h sha1 0x0 9=00112233445566778899aabbccddeeff00112233; 00 - flat \nadd a1 h sha1 0x0 9= 00 - flat \nadd a1 h sha1 0x0 - 0 - flat \n\
+add a1 h sha1 0x0 - 000 - flat \nadd a1 h sha1 0x0 - 0g - flat \nadd a1 h sha1 0x0 - - - flat \n\
+add a1 h sha1 0x0 - 00 aa0000000000000000000000000000000000000000000000000000000000001 flat \n\
+add a1 h sha1 0x0 - 00 aa000000000000000000000000000000000000000000000000000000000001 flat \nadd a1 h sha1 0x0 - 00 -- flat ";
 
 /// Lines that are no text.
 const NO_TEXTS: [&[u8]; 3] = [b"# \xff", b"#\xc3", b"stop \xe9"];
 
+/// The name of a command.
+fn name_of(command: &Command) -> &'static str {
+    match command {
+        Command::Nothing => "nothing",
+        Command::Add(_) => "add",
+        Command::Replace(_) => "replace",
+        Command::Reactivate(_) => "reactivate",
+        Command::Stop(_) => "stop",
+        Command::Remove(_) => "remove",
+        Command::Now(_) => "now",
+        Command::Begin(_) => "begin",
+        Command::Reply(_) => "reply",
+        Command::State(_) => "state",
+    }
+}
+
 /// The name of the command that a line spells, and `none` where it spells none; None where memory ran
 /// out, or the line is longer than a line may be.
-fn name_of(alloc: Global, line: &[u8]) -> Option<&'static str> {
+fn name_in(alloc: Global, line: &[u8]) -> Option<&'static str> {
     if line.len() > 16_777_216 {
         return None;
     }
     match read_command(alloc, line) {
-        Ok(Command::Nothing) => Some("nothing"),
-        Ok(Command::Add(_)) => Some("add"),
-        Ok(Command::Replace(_)) => Some("replace"),
-        Ok(Command::Reactivate(_)) => Some("reactivate"),
-        Ok(Command::Stop(_)) => Some("stop"),
-        Ok(Command::Remove(_)) => Some("remove"),
-        Ok(Command::Now(_)) => Some("now"),
-        Ok(Command::Begin(_)) => Some("begin"),
-        Ok(Command::Reply(_)) => Some("reply"),
-        Ok(Command::State(_)) => Some("state"),
+        Ok(command) => Some(name_of(&command)),
         Err(CommandFault::NoCommand) => Some("none"),
         Err(CommandFault::Memory) => None,
     }
@@ -79,7 +102,7 @@ fn which_lines_are_commands(rt: HostRuntime) {
     for (name, lines) in LINES {
         for line in lines.split('\n') {
             assert!(rt;
-                name_of(rt.alloc(), line.as_bytes()) == Some(name),
+                name_in(rt.alloc(), line.as_bytes()) == Some(name),
                 "{line}"
             );
         }
@@ -89,7 +112,7 @@ fn which_lines_are_commands(rt: HostRuntime) {
 #[test]
 fn a_line_that_is_no_text_is_no_command(rt: HostRuntime) {
     for line in NO_TEXTS {
-        assert!(rt; name_of(rt.alloc(), line) == Some("none"));
+        assert!(rt; name_in(rt.alloc(), line) == Some("none"));
     }
 }
 
@@ -105,7 +128,7 @@ fn reply_with(alloc: Global, bytes: usize) -> Result<Vec<u8>, Fail> {
 fn a_line_of_the_greatest_length_is_read(rt: HostRuntime) -> Result<(), Fail> {
     let line = reply_with(rt.alloc(), 16_777_195)?;
     assert!(rt; line.len() == 16_777_216);
-    assert!(rt; name_of(rt.alloc(), line.as_slice()) == Some("reply"));
+    assert!(rt; name_in(rt.alloc(), line.as_slice()) == Some("reply"));
     Ok(())
 }
 

@@ -133,6 +133,12 @@ session("two agents of one key", S, add("b1", 2), B, begin("b1", "m1", 2, 2),
 session("ids of all kinds", *(add(agent, number) for number, agent in enumerate(["a", "-", "_", ".", "0"], 1)), add("Z9-_.", 6),
         add("a" * 64, 7), begin("a" * 64, "N" * 64, 1, 7), begin("-", "0", 2, 2))
 
+session("the example of docs/FORMATS.md", add("a1", 1, v="-"), add("b1", 2, contact="h:9003", ak=b"k2", v="-"), begin("a1", "n1", 1, 1),
+        begin("b1", "n2", 2, 2), replace("a1", 3), begin("a1", "n3", 3, 3), passes(2, "n2", "current state 3", ak=b"k2"),
+        passes(1, "n1", "stale state 3"), refused(R, "nopoll 1"), refused("begin a1 n4", "busy 3"), stop("a1"),
+        refused("begin a1 n4", "state 10"), passes(3, "n3", "stale state 10"), reactivate("a1", 4), state("a1", 1, "START", 4, 0),
+        remove("b1"), refused("state b1", "noagent"))
+
 # ---- moments
 session("moments", ("now 0", "now 0"), ("now 5000", "now 5000"), (f"now {MOST}", f"now {MOST}"), S, B, ("now 3", "now 3"), R)
 

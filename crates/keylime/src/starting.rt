@@ -98,7 +98,15 @@ pub fn start<S: Source, K: Sink, Y: Keys, N: Words, L: Ledger>(
         × (keys.new ≡ keys.old) × (nonces.new ≡ nonces.old)) }
 {
     match words {
-        Ok(words) => answer::<_, _, _, _, L>(alloc, words.as_slice(), script, out, keys, nonces, blank),
+        Ok(words) => answer::<_, _, _, _, L>(
+            alloc,
+            words.as_slice(),
+            script,
+            out,
+            keys,
+            nonces,
+            blank,
+        ),
         Err(NoWords::NoText) => USAGE,
         Err(NoWords::Memory) => MEMORY,
     }

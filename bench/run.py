@@ -70,6 +70,8 @@ def wait_until_played(child):
     while True:
         left = struct.unpack("i", fcntl.ioctl(child.stdin, termios.FIONREAD, b"\0" * 4))[0]
         state = pathlib.Path(f"/proc/{child.pid}/stat").read_text().rpartition(")")[2].split()[0]
+        if state == "Z":
+            sys.exit("a program ended before its script did")
         if left == 0 and state == "S":
             return
         time.sleep(0.002)

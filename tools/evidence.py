@@ -132,8 +132,12 @@ def escape_field(text):
     return escape_rest(text).replace(" ", "\\s") or "\\0"
 
 
-def add_line(policy, *, agent="a1", bank="sha256", mask="0x10400", statics="-", v=V):
-    return f"add {agent} h:9002 {bank} {mask} {statics} {AK.hex()} {v} flat {escape_rest(policy)}\n"
+def add_line(policy, *, agent="a1", contact="h:9002", bank="sha256", mask="0x10400", statics="-", ak=AK, v=V):
+    return f"add {agent} {contact} {bank} {mask} {statics} {ak.hex()} {v} flat {escape_rest(policy)}\n"
+
+
+def replace_line(policy, agent="a1"):
+    return f"replace {agent} flat {escape_rest(policy)}\n"
 
 
 def begin_line(nonce="n1", agent="a1"):

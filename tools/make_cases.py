@@ -3,222 +3,77 @@
 
     tools/make_cases.py            writes examples/ and the stdin and stdout of crates/kl_cases
     tools/make_cases.py --check    says whether they stand as they would be written
-    tools/make_cases.py --run P    runs each whose key object meets no fault through the program P, the longest too
+    tools/make_cases.py --run P    runs each whose keys meet no fault and whose nonces are given through the program P, the long
+                                   ones too, which are stored nowhere
+
+The cases are those of appraisal_cases.py and session_cases.py.
 """
 import pathlib
 import subprocess
 import sys
-from dataclasses import dataclass
 
-import evidence as ev
-from evidence import BOOT_AGGREGATE, POLICY, SHELL, UNLISTED, Entry
+import appraisal_cases  # noqa: F401
+import session_cases  # noqa: F401
+from cases import CASES, LONG
 
 ROOT = pathlib.Path(__file__).resolve().parent.parent
-INSTALLED = "installed a1 generation 1\n"
-NONCE_32 = "abcdefghijklmnopqrstuvwxyzABCDEF"
+# More bytes than any stored case prints, as crates/kl_cases has it.
+ROOM = 65_536
 
 
-def polled(nonce="n1"):
-    return f"poll 1 a1 generation 1 nonce {nonce} from 0\n"
-
-
-@dataclass
-class Case:
-    """A script, what it prints, its status; the numbers of the key object's calls that fail; and whether it is an example."""
-
-    name: str
-    script: str
-    printed: str
-    status: int = 0
-    key_faults: str = "-"
-    example: bool = False
-
-
-CASES = []
-
-
-def case(name, script, printed, **more):
-    CASES.append(Case(name, script, printed, **more))
-
-
-def appraised(name, quote, entries, verdict, *, policy=POLICY, nonce="n1", add=None, **more):
-    """An add, a begin and a reply; `verdict` is the last line's text after `verdict 1 `."""
-    reply = {key: more.pop(key) for key in ("bank", "start", "public") if key in more}
-    text = entries if isinstance(entries, str) else ev.list_text(entries)
-    script = ev.add_line(policy, **(add or {})) + ev.begin_line(nonce) + ev.reply_line(quote, text, **reply)
-    case(name, script, INSTALLED + polled(nonce) + f"verdict 1 {verdict}\n", **more)
-
-
-GOOD = [BOOT_AGGREGATE, SHELL]
-
-# ---- each bank: a pass, a failure, an invalid quote
-for bank in ev.BANKS:
-    add = {"bank": bank}
-    good = ev.quote_of(bank, "n1", GOOD)
-    appraised(f"pass-{bank}", good, GOOD, "pass 2 current state 5", add=add, bank=bank, example=True)
-    bad = [BOOT_AGGREGATE, UNLISTED]
-    appraised(f"failure-{bank}", ev.quote_of(bank, "n1", bad), bad, "failed entry 1 unknown current state 7",
-              add=add, bank=bank, example=True)
-    appraised(f"invalid-{bank}", ev.quote_of(bank, "n2", GOOD), GOOD, "invalid nonce current state 9",
-              add=add, bank=bank, example=True)
-GOOD_QUOTE = ev.quote_of("sha256", "n1", GOOD)
-
-# ---- scripts that end early
-case("empty script", "", "")
-case("add alone", ev.add_line(POLICY), INSTALLED)
-case("begin first", ev.begin_line(), "fault line 1\n", status=3)
-case("empty first line", "\n", "fault line 1\n", status=3)
-case("comment first", "# a script\n", "fault line 1\n", status=3)
-case("another agent begins", ev.add_line(POLICY) + ev.begin_line(agent="b1"), INSTALLED + "fault line 2\n", status=3)
-case("two adds", ev.add_line(POLICY) * 2, INSTALLED + "fault line 2\n", status=3)
-case("two begins", ev.add_line(POLICY) + ev.begin_line() * 2, INSTALLED + polled() + "fault line 3\n", status=3)
-case("a fourth line", ev.add_line(POLICY) + ev.begin_line() + ev.reply_line(GOOD_QUOTE, ev.list_text(GOOD)) + ev.begin_line("n2"),
-     INSTALLED + polled() + "verdict 1 pass 2 current state 5\nfault line 4\n", status=3)
-case("reply of another poll", ev.add_line(POLICY) + ev.begin_line() + ev.reply_line(GOOD_QUOTE, "", poll="2"),
-     INSTALLED + polled() + "fault line 3\n", status=3)
-
-# ---- refused adds
-case("mask refused", ev.add_line(POLICY, mask="0x10000"), "refused mask\n")
-case("static refused", ev.add_line(POLICY, statics="10=" + "00" * 32), "refused static\n")
-case("static of another bank refused", ev.add_line(POLICY, mask="0x10401", statics="0=" + "00" * 20), "refused static\n")
-case("mask before static", ev.add_line(POLICY, mask="0x10000", statics="10=" + "00" * 32), "refused mask\n")
-case("policy line refused", ev.add_line(POLICY + "\n\nzz  /x\n", mask="0x10000"), "refused policy line 5\n")
-case("begin after a refused add", ev.add_line(POLICY, mask="0x10000") + ev.begin_line(), "refused mask\nfault line 2\n", status=3)
-
-# ---- the rules of the appraisal
-appraised("empty list", ev.quote_of("sha256", "n1", []), [], "failed unmatched current state 7")
-appraised("without V", GOOD_QUOTE, GOOD, "pass 2 current state 3", add={"v": "-"})
-appraised("longer list than quoted", GOOD_QUOTE, [BOOT_AGGREGATE, SHELL, UNLISTED], "pass 2 current state 5")
-appraised("no newline after the last line", GOOD_QUOTE, ev.list_text(GOOD)[:-1], "pass 2 current state 5")
-spaced = Entry("/a b", b"\xee" * 32)
-appraised("path with space", ev.quote_of("sha256", "n1", [BOOT_AGGREGATE, spaced]), ev.list_text([BOOT_AGGREGATE, spaced])[:-1],
-          "pass 2 current state 5", policy=POLICY + ev.flat_policy([spaced]))
-violation = Entry("/var/log/x", bytes(32), hash=bytes(20))
-appraised("violation", ev.quote_of("sha256", "n1", GOOD + [violation]), GOOD + [violation], "failed entry 2 violation current state 7")
-changed = Entry("/bin/sh", b"\xbb" * 32, hash=bytes([1]) + SHELL.template_hash()[1:])
-appraised("inconsistent", ev.quote_of("sha256", "n1", [BOOT_AGGREGATE, changed]), [BOOT_AGGREGATE, changed],
-          "failed entry 1 inconsistent current state 7")
-other = Entry("/bin/sh", b"\xbc" * 32)
-appraised("another digest", ev.quote_of("sha256", "n1", [BOOT_AGGREGATE, other]), [BOOT_AGGREGATE, other],
-          "failed entry 1 digest current state 7")
-appraised("repeated path", ev.quote_of("sha256", "n1", [BOOT_AGGREGATE, other, SHELL]), [BOOT_AGGREGATE, other, SHELL],
-          "pass 3 current state 5", policy=POLICY + ev.flat_policy([other]))
-for name, selections, verdict in [
-    ("three selection bytes", [ev.selection(11, bytes.fromhex("000401"))], "pass 2 current state 5"),
-    ("four selection bytes", [ev.selection(11, bytes.fromhex("00040100"))], "pass 2 current state 5"),
-    ("highest byte first", [ev.selection(11, bytes.fromhex("040001"))], "invalid selection current state 9"),
-    ("four bytes with PCR 24", [ev.selection(11, bytes.fromhex("00040101"))], "invalid selection current state 9"),
-    ("an empty selection beside", [ev.selection(4, b"\0\0\0"), ev.selection(11, bytes.fromhex("000401"))], "pass 2 current state 5"),
-    ("two selections", [ev.selection(11, bytes.fromhex("000400")), ev.selection(11, bytes.fromhex("000001"))],
-     "invalid selection current state 9"),
-]:
-    appraised(name, ev.quote_of("sha256", "n1", GOOD, selections=selections), GOOD, verdict)
-for name, change, verdict in [
-    ("attest of 144 bytes", lambda body: body[:144], "short 113"),
-    ("attest of 100 bytes", lambda body: body[:100], "short 93"),
-    ("attest of no bytes", lambda body: b"", "short 0"),
-    ("attest with a byte more", lambda body: body + b"\0", "tail 145"),
-    ("attest with safe 2", lambda body: body[:92] + b"\2" + body[93:], "safe"),
-]:
-    appraised(name, ev.quote_of("sha256", NONCE_32, GOOD, change=change), GOOD, f"invalid attest {verdict} current state 9", nonce=NONCE_32)
-appraised("attest type", ev.quote_of("sha256", "n1", GOOD, type_=0x8017), GOOD, "invalid attest type current state 9")
-appraised("attest magic before type", ev.quote_of("sha256", "n1", GOOD, type_=0x8017, magic=0xFF544348), GOOD,
-          "invalid attest magic current state 9")
-appraised("bank field", GOOD_QUOTE, GOOD, "invalid bank current state 9", bank="sha1")
-appraised("another key", ev.quote_of("sha256", "n1", GOOD, ak=b"k2"), GOOD, "invalid signature current state 9")
-appraised("another public key text", GOOD_QUOTE, GOOD, "invalid binding current state 9", public="PUC")
-appraised("start over 0", GOOD_QUOTE, GOOD, "invalid start current state 9", start="1")
-appraised("static value", ev.quote_of("sha256", "n1", GOOD, statics={0: b"\xff" * 32}), GOOD, "failed pcr 0 current state 7",
-          add={"mask": "0x10401", "statics": "0=" + "00" * 32})
-appraised("second value of a static", ev.quote_of("sha256", "n1", GOOD, statics={0: b"\xff" * 32}), GOOD, "pass 2 current state 5",
-          add={"mask": "0x010401", "statics": "0=" + "00" * 32 + "," + "FF" * 32})
-case("key fault", ev.add_line(POLICY) + ev.begin_line() + ev.reply_line(GOOD_QUOTE, ev.list_text(GOOD)),
-     INSTALLED + polled() + "dropped 1 keys state 3\n", key_faults="1")
-case("one key call alone", ev.add_line(POLICY) + ev.begin_line() + ev.reply_line(GOOD_QUOTE, ev.list_text(GOOD)),
-     INSTALLED + polled() + "verdict 1 pass 2 current state 5\n", key_faults="2")
-case("no key call before rule 4", ev.add_line(POLICY) + ev.begin_line() + ev.reply_line("x", ev.list_text(GOOD)),
-     INSTALLED + polled() + "verdict 1 invalid form 0 current state 9\n", key_faults="1")
-
-# ---- line faults, each alone
-E0 = BOOT_AGGREGATE.line()
-for name, line in {
-    "toolong": E0 + "x" * 8192, "pcr": "11" + E0[2:], "hash": E0[:10] + "G" + E0[11:], "template": E0.replace("ima-ng", "ima-sig"),
-    "digest": E0.replace("sha256:aa", "sha256:AA"), "path": E0[: E0.rindex(" ") + 1],
-}.items():
-    appraised(f"line fault {name}", GOOD_QUOTE, SHELL.line() + "\n" + line + "\n", f"failed line 1 {name} current state 7")
-
-# ---- two neighbouring rules apply: the earlier one decides
-quote = ev.Quote("sha256", "n1", {10: ev.replay("sha256", GOOD), 16: ev.binding("sha256")})
-
-
-def neighbours(rules, quote_text, entries, verdict, **more):
-    appraised(f"rules {rules}", quote_text, entries, verdict, **more)
-
-
-def resigned(text, *, values=None, digest=None):
-    """The quote text with other values beside the attestation."""
-    parts = text[1:].split(":")
-    if values is not None:
-        parts[2] = ev.base64.b64encode(values).decode()
-    return "r" + ":".join(parts)
-
-
-values = quote.values_bytes()
-wrong_select = [ev.selection(11, bytes.fromhex("000402"))]
-neighbours("1 and 2", GOOD_QUOTE[1:], GOOD, "invalid form 0 current state 9", bank="sha1")
-neighbours("2 and 3", ev.quote_of("sha256", "n1", GOOD, type_=0), GOOD, "invalid bank current state 9", bank="sha1")
-neighbours("3 and 4", ev.quote_of("sha256", "n1", GOOD, type_=0, ak=b"k2"), GOOD, "invalid attest type current state 9")
-neighbours("4 and 5", ev.quote_of("sha256", "n2", GOOD, ak=b"k2"), GOOD, "invalid signature current state 9")
-neighbours("5 and 6", ev.quote_of("sha256", "n2", GOOD, selections=wrong_select), GOOD, "invalid nonce current state 9")
-neighbours("6 and 7", resigned(ev.quote_of("sha256", "n1", GOOD, selections=wrong_select), values=values[1:]), GOOD,
-           "invalid selection current state 9")
-neighbours("7 and 8", resigned(GOOD_QUOTE, values=values[1:]), GOOD, "invalid pcrlength current state 9")
-neighbours("8 and 9", resigned(GOOD_QUOTE, values=values[:32] + bytes(32)), GOOD, "invalid pcrdigest current state 9")
-neighbours("9 and 10", GOOD_QUOTE, GOOD, "invalid binding current state 9", public="PUC", start="1")
-static = {"mask": "0x10401", "statics": "0=" + "00" * 32}
-wrong_pcr = {"statics": {0: b"\xff" * 32}}
-neighbours("10 and 12", ev.quote_of("sha256", "n1", GOOD, **wrong_pcr), GOOD, "invalid start current state 9", start="7", add=static)
-neighbours("12 and 13", ev.quote_of("sha256", "n1", GOOD, **wrong_pcr), "x\n", "failed pcr 0 current state 7", add=static)
-neighbours("13 and 14", GOOD_QUOTE, "\n" * 131073, "failed line 0 pcr current state 7")
-short = Entry("p", b"", alg="a", hash=b"\x01" * 20)
-neighbours("14 and 15", GOOD_QUOTE, [short] * 131073, "failed listfull current state 7")
-appraised("list of 131072 lines", GOOD_QUOTE, [short] * 131072, "failed unmatched current state 7")
-neighbours("15 and 16", GOOD_QUOTE, [UNLISTED], "failed unmatched current state 7")
-neighbours("16 and 17", ev.quote_of("sha256", "n1", [UNLISTED, SHELL]), [UNLISTED, SHELL], "failed entry 0 unknown current state 7")
+def stored_cases():
+    """Those that crates/kl_cases runs: it reads lines of text, and each script is what stands up to the next mark."""
+    kept = [c for c in CASES if c.stored]
+    for c in kept:
+        lines = c.script.decode().split("\n")
+        assert lines[-1] == "" and "\r" not in c.script.decode() and not any(line.startswith("== ") for line in lines), c.name
+        assert len(c.printed) < ROOM and "\n" not in c.name, c.name
+    names = [c.name for c in CASES]
+    assert len(set(names)) == len(names), [name for name in names if names.count(name) > 1]
+    return kept
 
 
 def files():
-    """Every file that is written, by its place."""
+    """The bytes of every file that is written, by its place."""
     made = {}
     for c in CASES:
         if c.example:
             made[f"examples/{c.name}.script"] = c.script
             made[f"examples/{c.name}.printed"] = c.printed
-    big = {"rules 13 and 14", "rules 14 and 15", "list of 131072 lines"}
-    kept = [c for c in CASES if c.name not in big]
-    made["crates/kl_cases/stdin"] = "".join(f"== {c.key_faults} {c.name}\n{c.script}" for c in kept)
-    made["crates/kl_cases/stdout"] = "".join(f"== {c.name}\n{c.printed}status {c.status}\n" for c in kept)
-    first = next(c for c in CASES if c.name == "pass-sha256")
+    kept = stored_cases()
+    made["crates/kl_cases/stdin"] = b"".join(f"== {c.key_faults} {c.words} {c.name}\n".encode() + c.script for c in kept)
+    made["crates/kl_cases/stdout"] = b"".join(b"== %s\n%sstatus %d\n" % (c.name.encode(), c.printed, c.status) for c in kept)
+    first = next(c for c in CASES if c.name == "session")
     made["crates/keylime/stdin"], made["crates/keylime/stdout"] = first.script, first.printed
     return made
 
 
 def wrongly_run(program):
-    """The names of the examples that the program does not print as stated, or does not end as stated."""
+    """The names of the cases that the program does not print as stated, or does not end as stated, with where they part."""
     wrong = []
-    for c in CASES:
-        if c.key_faults == "-":
-            ran = subprocess.run([program, "run"], input=c.script.encode(), stdout=subprocess.PIPE)
-            if (ran.stdout, ran.returncode) != (c.printed.encode(), c.status):
-                wrong.append(c.name)
+    runs = [lambda c=c: c for c in CASES if c.runs_by_program()] + LONG
+    for make in runs:
+        c = make()
+        ran = subprocess.run([program, "run"], input=c.script, stdout=subprocess.PIPE)
+        if (ran.stdout, ran.returncode) != (c.printed, c.status):
+            wrong.append((c.name, parting(c, ran)))
     return wrong
+
+
+def parting(c, ran):
+    """The first line that differs, or the two statuses."""
+    stated, found = c.printed.split(b"\n"), ran.stdout.split(b"\n")
+    for number, pair in enumerate(zip(stated, found), 1):
+        if pair[0] != pair[1]:
+            return f"line {number}: {pair[1][:200]!r} for {pair[0][:200]!r}"
+    return f"{len(found)} lines for {len(stated)}, status {ran.returncode} for {c.status}"
 
 
 def stale_files():
     """The files that are not as they would be written, and the examples that would not be written at all."""
     made = files()
-    stale = [path for path, text in made.items()
-             if not (ROOT / path).exists() or (ROOT / path).read_bytes() != text.encode()]
+    stale = [path for path, content in made.items()
+             if not (ROOT / path).exists() or (ROOT / path).read_bytes() != content]
     there = [f"examples/{path.name}" for path in sorted((ROOT / "examples").iterdir())]
     return stale + [path for path in there if path not in made]
 
@@ -227,8 +82,8 @@ def main():
     match sys.argv[1:]:
         case ["--run", program]:
             wrong = wrongly_run(program)
-            for name in wrong:
-                print(f"{name} is not printed as stated")
+            for name, where in wrong:
+                print(f"{name} is not printed as stated: {where}")
             return 1 if wrong else 0
         case ["--check"]:
             stale = stale_files()
@@ -245,10 +100,12 @@ def main():
 
 def write_files():
     stale = stale_files()
-    for path, text in files().items():
+    for path, content in files().items():
         (ROOT / path).parent.mkdir(parents=True, exist_ok=True)
-        (ROOT / path).write_bytes(text.encode())
-    print(f"{len(CASES)} cases; {len(stale)} files changed")
+        (ROOT / path).write_bytes(content)
+    kept = sum(c.stored for c in CASES)
+    run = sum(c.runs_by_program() for c in CASES) + len(LONG)
+    print(f"{len(CASES) + len(LONG)} cases, {kept} of them stored and {run} run by --run; {len(stale)} files changed")
 
 
 if __name__ == "__main__":

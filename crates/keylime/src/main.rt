@@ -1,10 +1,10 @@
-//! The program over the real standard streams: `keylime run < script`.
+//! The program over the real standard streams and the system's random bytes: `keylime run < script`.
 #![tactic(auto)]
 
 mod starting;
 
 use crate::starting::{NoWords, start};
-use kl_io::{StdSink, StdSource};
+use kl_io::{StdSink, StdSource, StdWords};
 use kl_keys::MacKeys;
 use std::alloc::Global;
 use std::marker::Brand;
@@ -23,12 +23,14 @@ fn main(rt: HostRuntime) -> ExitCode {
     };
     let mut script = StdSource::new(rt.stdin());
     let mut out = StdSink::new(rt.stdout());
-    let status = start::<_, _, _, Brand>(
+    let mut nonces = StdWords::new(&rt);
+    let status = start::<_, _, _, _, Brand>(
         alloc,
         words_of(alloc, &rt),
         &mut script,
         &mut out,
         &mut keys,
+        &mut nonces,
         Blank::new(1),
     );
     ExitCode::from(status)

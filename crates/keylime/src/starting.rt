@@ -5,29 +5,39 @@ ghost use Rattle.kl_console.specs.Run.{moment, EndsAs};
 ghost use Rattle.keylime.specs.Starting.{Says, IsOtherWords, status_without};
 
 use kl_console::{is_only_word, run_counted};
-use kl_io::{Sink, Source};
+use kl_io::{Sink, Source, Words};
 use kl_keys::Keys;
 use std::alloc::Global;
 use std::sync::ledger::{Blank, Ledger};
 
 /// What `--help` prints.
 const HELP: &str =
-    "keylime judges what an agent's machine measured, by its TPM's quote and by a policy.
+    "keylime judges what agents' machines measured, by their TPMs' quotes and by a policy for each.
 
 usage: keylime run < script
 
-  run        reads a script, and prints a line for each line of it
+  run        reads a script, and prints a line for each command of it
   --help     prints this text
   --version  prints the version
 
-A script is an add, a begin and a reply. examples/ has scripts, and beside each what it prints; docs/FORMATS.md has the formats.
+A line of a script is a command, or is empty or begins with # and prints nothing. The commands are
+
+  add <agent> <contact> <bank> <mask> <statics> <ak> <v> flat <policy>
+  replace <agent> flat <policy>     reactivate <agent>
+  stop <agent>                      remove <agent>
+  begin <agent> [<nonce>]           reply <poll> <bank> <start> <public> <quote> <list>
+  state <agent>                     now <milliseconds>
+
+A begin without a nonce draws one. examples/ has scripts, and beside each what it prints; docs/FORMATS.md has the formats.
 
 status
    0  the script was read to its end, and every line was executed and printed
    2  the words are other ones; nothing was read or written
-   3  a line is not the command of its place; `fault line <n>` was written last
+   3  a line spells no command; `fault line <n>` was written last
    4  reading the script failed
    5  writing failed
+   6  a nonce could not be drawn
+   8  a line has over 16,777,216 bytes, or the script over 1,099,511,627,776; `fault line <n>` was written last
   70  memory ran out
 ";
 
@@ -59,12 +69,13 @@ pub enum NoWords {
 ///
 /// `--help` and `--version`, each as the only word, are answered on the output. All other words are handed over to
 /// `kl_console::run_counted`, which knows the word `run` alone.
-pub fn start<S: Source, K: Sink, Y: Keys, L: Ledger>(
+pub fn start<S: Source, K: Sink, Y: Keys, N: Words, L: Ledger>(
     alloc: Global,
     words: Result<Vec<String>, NoWords>,
     script: &mut S,
     out: &mut K,
     keys: &mut Y,
+    nonces: &mut N,
     blank: Blank,
 ) -> u8
     requires name { blank.name ≡ L.name }
@@ -75,30 +86,40 @@ pub fn start<S: Source, K: Sink, Y: Keys, L: Ledger>(
     ensures version { IfOk words (λ w. map string_bytes w.items ≡ codes "--version" ∷ []
         → Says (K.told out.old) (K.told out.new) VERSION.now result × (script.new ≡ script.old)) }
     ensures run { IfOk words (λ w. map string_bytes w.items ≡ codes "run" ∷ []
-        → EndsAs (moment (S.told script.old) (K.told out.old) (Y.told keys.old))
-        (moment (S.told script.new) (K.told out.new) (Y.told keys.new)) result × (result ≢ 2)) }
+        → EndsAs (moment (S.told script.old) (K.told out.old) (Y.told keys.old) (N.told nonces.old))
+        (moment (S.told script.new) (K.told out.new) (Y.told keys.new) (N.told nonces.new)) result × (result ≢ 2)) }
     ensures other { IfOk words (λ w. IsOtherWords (map string_bytes w.items) → result ≡ 2) }
-    // At 2 nothing was read, written or asked.
+    // At 2 nothing was read, written, asked or drawn.
     ensures unread { result ≡ 2 → script.new ≡ script.old }
     ensures unwritten { result ≡ 2 → out.new ≡ out.old }
     ensures unasked { result ≡ 2 → keys.new ≡ keys.old }
+    ensures undrawn { result ≡ 2 → nonces.new ≡ nonces.old }
     ensures none { IfErr words (λ why. (result ≡ status_without why) × (script.new ≡ script.old) × (out.new ≡ out.old)
-        × (keys.new ≡ keys.old)) }
+        × (keys.new ≡ keys.old) × (nonces.new ≡ nonces.old)) }
 {
     match words {
-        Ok(words) => answer::<_, _, _, L>(alloc, words.as_slice(), script, out, keys, blank),
+        Ok(words) => answer::<_, _, _, _, L>(
+            alloc,
+            words.as_slice(),
+            script,
+            out,
+            keys,
+            nonces,
+            blank,
+        ),
         Err(NoWords::NoText) => USAGE,
         Err(NoWords::Memory) => MEMORY,
     }
 }
 
 /// Does what these words say.
-fn answer<S: Source, K: Sink, Y: Keys, L: Ledger>(
+fn answer<S: Source, K: Sink, Y: Keys, N: Words, L: Ledger>(
     alloc: Global,
     words: &[String],
     script: &mut S,
     out: &mut K,
     keys: &mut Y,
+    nonces: &mut N,
     blank: Blank,
 ) -> u8
     requires name { blank.name ≡ L.name }
@@ -109,12 +130,13 @@ fn answer<S: Source, K: Sink, Y: Keys, L: Ledger>(
     ensures version { map string_bytes words.now ≡ codes "--version" ∷ []
         → Says (K.told out.old) (K.told out.new) VERSION.now result × (script.new ≡ script.old) }
     ensures run { map string_bytes words.now ≡ codes "run" ∷ []
-        → EndsAs (moment (S.told script.old) (K.told out.old) (Y.told keys.old))
-        (moment (S.told script.new) (K.told out.new) (Y.told keys.new)) result × (result ≢ 2) }
+        → EndsAs (moment (S.told script.old) (K.told out.old) (Y.told keys.old) (N.told nonces.old))
+        (moment (S.told script.new) (K.told out.new) (Y.told keys.new) (N.told nonces.new)) result × (result ≢ 2) }
     ensures other { IsOtherWords (map string_bytes words.now) → result ≡ 2 }
     ensures unread { result ≡ 2 → script.new ≡ script.old }
     ensures unwritten { result ≡ 2 → out.new ≡ out.old }
     ensures unasked { result ≡ 2 → keys.new ≡ keys.old }
+    ensures undrawn { result ≡ 2 → nonces.new ≡ nonces.old }
 {
     if is_only_word(words, "--help") {
         return say(out, HELP);
@@ -122,7 +144,7 @@ fn answer<S: Source, K: Sink, Y: Keys, L: Ledger>(
     if is_only_word(words, "--version") {
         return say(out, VERSION);
     }
-    run_counted::<_, _, _, L>(alloc, words, script, out, keys, blank)
+    run_counted::<_, _, _, _, L>(alloc, words, script, out, keys, nonces, blank)
 }
 
 /// Writes a text, and answers the status of that.

@@ -1,16 +1,16 @@
 -- Bytes that a source gives, one read after another.
-use Rattle.std.proofs.Common.{◌≡◌, ◌≢◌, List, ℕ, Bool, true, false, ◌<◌, ◌≤◌, ◌+◌, ◌∷◌, ◌++◌, [], length, Option, sym, ap, ◌∙◌, append_assoc, subst, Result, Ok, Err, ◌⊎◌, inl, inr, refl, arith, length-append}
+use Rattle.std.proofs.Common.{◌≡◌, ◌≢◌, List, ℕ, Bool, true, false, ◌<◌, ◌≤◌, ◌+◌, ◌∷◌, ◌++◌, [], length, Option, sym, ap, ◌∙◌, append_assoc, subst, Result, Ok, Err, inl, inr, refl, arith, length-append}
 use Rattle.std.proofs.KnownBytes.{Consumes-trans}
 use Rattle.std.proofs.lemmas.List.{append-nil}
 use Rattle.std.specs.Io.KnownBytes.{Consumes, IsAtEnd}
 use Rattle.kl_io.specs.Told.{SourceTold}
 use Rattle.kl_entry.specs.Lines.{HasNo}
 use Rattle.kl_console.specs.declared.line_reader.Found.{Found}
-use Rattle.kl_console.specs.declared.line_reader.Found.TheVariants.{Line, Last, End, TooLong}
+use Rattle.kl_console.specs.declared.line_reader.Found.TheVariants.{Line, Last, TooLong}
 use Rattle.kl_console.specs.declared.line_reader.ReadError.{ReadError}
 use Rattle.kl_console.specs.declared.line_reader.ReadError.TheVariants.{Failed, Memory}
-use Rattle.kl_console.specs.Lines.{line_limit, script_limit, IsLine, IsEnded, IsUnended, IsOverLimit}
-use Rattle.kl_console.specs.Inner.Reading.{Finds, Fits, IsOver, Reading, ReadsLine, held_bytes, newline_size}
+use Rattle.kl_console.specs.Lines.{line_limit, script_limit, IsLine, IsOverLimit}
+use Rattle.kl_console.specs.Inner.Reading.{Finds, Fits, IsOver, Reading, ReadsLine, held_bytes}
 
 -- what a reader has gathered of a line so far, with more of it ahead
 pub record Gathered (before now : SourceTold) (initial r : Reading) : Type 0 where
@@ -76,7 +76,7 @@ reads_primed before now after old primed new result p same r = (
   p.0 ++ r.0,
   Consumes-trans before now after p.0 r.0 p.1 r.1,
   subst (λ (n : ℕ). Finds n after (old.ahead ++ (p.0 ++ r.0)) new result) same
-  (subst (λ (bytes : List ℕ). Finds primed.passed after bytes new result) (ap (λ (t : List ℕ). t ++ r.0) p.2 ∙ append_assoc old.ahead p.0 r.0) r.2),
+      (subst (λ (bytes : List ℕ). Finds primed.passed after bytes new result) (ap (λ (t : List ℕ). t ++ r.0) p.2 ∙ append_assoc old.ahead p.0 r.0) r.2),
 )
 
 -- ---- how a line ends
@@ -106,11 +106,14 @@ reads_whole before now initial r p new h held kept none fits is =
     subst (λ (q : Reading). ReadsLine before.left now.left initial q (Ok Line)) (sym is) (
       b.0,
       b.1,
-      (record {
-        parts = b.2 ∙ sym held;
-        is_line = record { whole = none h.whole; short = fits.0 };
-        fits = subst (λ (n : ℕ). n + length p.line + 1 ≤ script_limit) same fits.1;
-      }, ap (λ (n : ℕ). n + length p.line + 1) same),
+      (
+        record {
+          parts = b.2 ∙ sym held;
+          is_line = record { whole = none h.whole; short = fits.0 };
+          fits = subst (λ (n : ℕ). n + length p.line + 1 ≤ script_limit) same fits.1;
+        },
+        ap (λ (n : ℕ). n + length p.line + 1) same,
+      ),
     )
 
 some_line : (line more : List ℕ) → 0 < length more → line ++ more ≢ []
@@ -122,13 +125,19 @@ pub reads_last : (before now after : SourceTold) (initial r p f : Reading) → G
 reads_last before now after initial r p f h m a empty end =
     let b = asked_bytes before now after initial r p f h m a in
     let line = a.line ∙ moved_line r p m in
-    let same = m.kept ∙ h.passed in
-    (b.0, b.1, (b.2 ∙ ap (λ (t : List ℕ). f.line ++ t) empty ∙ append-nil f.line, record {
-      some = λ none. some_line r.line r.ahead h.ahead (sym line ∙ none);
-      is_line = asked_line before now after initial r p f h m a;
-      fits = omega (arith, m.fits.1, same, ap length a.line);
-      at_end = end;
-    }))
+    let same = m.kept ∙ h.passed in (
+      b.0,
+      b.1,
+      (
+        b.2 ∙ ap (λ (t : List ℕ). f.line ++ t) empty ∙ append-nil f.line,
+        record {
+          some = λ none. some_line r.line r.ahead h.ahead (sym line ∙ none);
+          is_line = asked_line before now after initial r p f h m a;
+          fits = omega (arith, m.fits.1, same, ap length a.line);
+          at_end = end;
+        },
+      ),
+    )
 
 -- the source gave no more
 pub reads_stopped : (before now after : SourceTold) (initial r p f : Reading) (result : Result Found ReadError) (e : ReadError) → result ≡ Err e → Gathered before now initial r → Moved r p → Asked now after p f

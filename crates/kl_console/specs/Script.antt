@@ -1,7 +1,7 @@
 -- A script as far as it was executed: its lines, the commands that they spell, and what these printed.
-use Rattle.std.specs.Prelude.{◌≡◌, ◌⊎◌, ℕ, ◌+◌, ◌≤◌, Bool, true, false, List, [], ◌∷◌, ◌++◌, length, All, count_by, Option, codes, decimal}
+use Rattle.std.specs.Prelude.{ℕ, ◌+◌, ◌≤◌, Bool, true, false, List, [], ◌∷◌, ◌++◌, length, All, count_by, Option, codes, decimal}
 use Rattle.std.specs.List.{concat, AllZip}
-use Rattle.kl_script.specs.Commands.{CommandFields, nothing, Spells}
+use Rattle.kl_script.specs.Commands.{CommandFields, Spells}
 use Rattle.kl_session.specs.Outside.{Outside}
 use Rattle.kl_session.specs.Calls.{SessionFields, empty}
 use Rattle.kl_session.specs.Session.{Does, Follows}

@@ -82,7 +82,7 @@ fn turns<S: Source, K: Sink, Y: Keys, N: Words, L: Ledger>(
     };
     let mut number = 1;
     'turns: loop {
-        if let Err(end) = turn(
+        match turn(
             alloc,
             number,
             session,
@@ -93,9 +93,9 @@ fn turns<S: Source, K: Sink, Y: Keys, N: Words, L: Ledger>(
             nonces,
             steps,
         ) {
-            return end;
+            Ok(()) => number += 1,
+            Err(end) => return end,
         }
-        number += 1;
     }
 }
 

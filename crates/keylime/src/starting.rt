@@ -1,6 +1,8 @@
 //! What the words of the command line come to.
 
-ghost use Rattle.std.specs.Prelude.{◌≡◌, ◌≢◌, ◌≤◌, ◌∷◌, [], map, codes, string_bytes, IfOk, IfErr};
+ghost use Rattle.std.specs.Prelude.{◌≡◌, ◌≢◌, ◌≤◌, ◌∷◌, [], ℕ, map, codes, string_bytes, IfOk, IfErr};
+ghost use Rattle.kl_history.specs.Records.{History};
+ghost use Rattle.kl_session.specs.Outside.{outside};
 ghost use Rattle.kl_console.specs.Run.{moment, EndsAs};
 ghost use Rattle.keylime.specs.Starting.{Says, IsOtherWords, status_without};
 
@@ -86,8 +88,8 @@ pub fn start<S: Source, K: Sink, Y: Keys, N: Words, L: Ledger>(
     ensures version { IfOk words (λ w. map string_bytes w.items ≡ codes "--version" ∷ []
         → Says (K.told out.old) (K.told out.new) VERSION.now result × (script.new ≡ script.old)) }
     ensures run { IfOk words (λ w. map string_bytes w.items ≡ codes "run" ∷ []
-        → EndsAs (moment (S.told script.old) (K.told out.old) (Y.told keys.old) (N.told nonces.old))
-        (moment (S.told script.new) (K.told out.new) (Y.told keys.new) (N.told nonces.new)) result × (result ≢ 2)) }
+        → ((steps : ℕ) × (H : History) × EndsAs (moment (S.told script.old) (K.told out.old) (outside (Y.told keys.old) (N.told nonces.old) 0))
+        (moment (S.told script.new) (K.told out.new) (outside (Y.told keys.new) (N.told nonces.new) steps)) result H) × (result ≢ 2)) }
     ensures other { IfOk words (λ w. IsOtherWords (map string_bytes w.items) → result ≡ 2) }
     // At 2 nothing was read, written, asked or drawn.
     ensures unread { result ≡ 2 → script.new ≡ script.old }
@@ -130,8 +132,8 @@ fn answer<S: Source, K: Sink, Y: Keys, N: Words, L: Ledger>(
     ensures version { map string_bytes words.now ≡ codes "--version" ∷ []
         → Says (K.told out.old) (K.told out.new) VERSION.now result × (script.new ≡ script.old) }
     ensures run { map string_bytes words.now ≡ codes "run" ∷ []
-        → EndsAs (moment (S.told script.old) (K.told out.old) (Y.told keys.old) (N.told nonces.old))
-        (moment (S.told script.new) (K.told out.new) (Y.told keys.new) (N.told nonces.new)) result × (result ≢ 2) }
+        → ((steps : ℕ) × (H : History) × EndsAs (moment (S.told script.old) (K.told out.old) (outside (Y.told keys.old) (N.told nonces.old) 0))
+        (moment (S.told script.new) (K.told out.new) (outside (Y.told keys.new) (N.told nonces.new) steps)) result H) × (result ≢ 2) }
     ensures other { IsOtherWords (map string_bytes words.now) → result ≡ 2 }
     ensures unread { result ≡ 2 → script.new ≡ script.old }
     ensures unwritten { result ≡ 2 → out.new ≡ out.old }

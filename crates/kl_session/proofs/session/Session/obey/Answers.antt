@@ -1,4 +1,4 @@
-use Rattle.std.proofs.Common.{◌≡◌, inl, refl}
+use Rattle.std.proofs.Common.{◌≡◌, List, ℕ, inl, refl}
 use Rattle.std.proofs.lemmas.Result.{IfOk-weaker, IfErr-weaker}
 use Rattle.kl_script.specs.Commands.{add, replace, reactivate, stop, remove, now, reply_fields}
 use Rattle.kl_session.specs.Outside.{outside}
@@ -91,21 +91,26 @@ returns-in-Now-clause-stopped g c =
     let s = c.args.self.now in
     let s' = c.set_now.new.self in
     let said = c.in-Now.moment in
-    rw c.in-Now.is
-    (alone c.set_now.result o s s' (now said) (λ line. line ≡ now_line said) (λ line is. (refl, c.set_now.ensures.set, is))
-    (IfErr-weaker c.set_now.result (λ stop. stop ≡ Memory) (λ stop. IsShort stop s s' (λ line. line ≡ now_line said)) (λ stop e. (e, inl (now_line said, refl))) c.set_now.ensures.short))
+    let Said : List ℕ → Type 0 = λ line. line ≡ now_line said in
+    let short = IfErr-weaker c.set_now.result (λ stop. stop ≡ Memory) (λ stop. IsShort stop s s' Said)
+    (λ stop e. (e, inl (now_line said, refl))) c.set_now.ensures.short in
+    rw c.in-Now.is (alone c.set_now.result o s s' (now said) Said (λ line is. (refl, c.set_now.ensures.set, is)) short)
 
 pub returns-in-Begin-clause-done : goal.returns-in-Begin-clause-done
 unfolding Does
-returns-in-Begin-clause-done g c = rw c.in-Begin.is (IfOk-weaker c.begin.result _ _ (λ line did. did (g.Y.Keys.told c.args.keys.now) c.args.steps.now) c.begin.ensures.done)
+returns-in-Begin-clause-done g c =
+    let keys = g.Y.Keys.told c.args.keys.now in
+    rw c.in-Begin.is (IfOk-weaker c.begin.result _ _ (λ line did. did keys c.args.steps.now) c.begin.ensures.done)
 
 pub returns-in-Begin-clause-stopped : goal.returns-in-Begin-clause-stopped
 returns-in-Begin-clause-stopped g c =
     let keys = g.Y.Keys.told c.args.keys.now in
     let n = c.args.steps.now in
+    let o = outside keys (g.N.Words.told c.args.nonces.now) n in
+    let o' = outside keys (g.N.Words.told c.begin.new.nonces) n in
     rw c.in-Begin.is
     (IfErr-weaker c.begin.result _ _
-    (λ why short. unbegun why (outside keys (g.N.Words.told c.args.nonces.now) n) (outside keys (g.N.Words.told c.begin.new.nonces) n) c.args.self.now c.begin.new.self c.in-Begin.begin (short keys n))
+    (λ why short. unbegun why o o' c.args.self.now c.begin.new.self c.in-Begin.begin (short keys n))
     c.begin.ensures.stopped)
 
 pub returns-in-Reply-clause-done : goal.returns-in-Reply-clause-done
@@ -114,9 +119,11 @@ returns-in-Reply-clause-done g c = rw c.in-Reply.is (IfOk-weaker c.reply.result 
 
 pub returns-in-Reply-clause-stopped : goal.returns-in-Reply-clause-stopped
 returns-in-Reply-clause-stopped g c =
+    let words = g.N.Words.told c.args.nonces.now in
+    let after = c.reply.new in
     rw c.in-Reply.is
-    (unanswered c.reply.result g.Y.Keys.told c.args.keys.now c.reply.new.keys (g.N.Words.told c.args.nonces.now) c.args.steps.now c.reply.new.steps c.args.self.now c.reply.new.self (reply_fields c.in-Reply.reply)
-    c.reply.ensures.short c.reply.ensures.unasked)
+    (unanswered c.reply.result g.Y.Keys.told c.args.keys.now after.keys words c.args.steps.now after.steps
+    c.args.self.now after.self (reply_fields c.in-Reply.reply) c.reply.ensures.short c.reply.ensures.unasked)
 
 pub returns-in-State-clause-done : goal.returns-in-State-clause-done
 unfolding Does

@@ -3,7 +3,7 @@ use Rattle.std.proofs.lemmas.Result.{IfOk-weaker, IfErr-weaker}
 use Rattle.kl_history.specs.Records.{past_of}
 use Rattle.kl_core.specs.Installs.{Adds, add_makes}
 use Rattle.kl_session.specs.Installs.{says_installed_or}
-use Rattle.kl_session.proofs.Commands.{Made, Plain, add_plain, done_of, short_of, kept}
+use Rattle.kl_session.proofs.Commands.{Made, add_plain, done_of, short_of, kept}
 use Rattle.kl_session.proofs.session.Session.add.Goals as goal
 
 pub invariant_of-self : goal.invariant_of-self

@@ -2,7 +2,7 @@ use Rattle.std.proofs.lemmas.Result.{IfErr-weaker}
 use Rattle.kl_history.specs.Records.{past_of}
 use Rattle.kl_core.specs.Installs.{Reactivates, reactivate_makes}
 use Rattle.kl_session.specs.Installs.{says_installed}
-use Rattle.kl_session.proofs.Commands.{Made, Plain, reactivate_plain, short_of, kept}
+use Rattle.kl_session.proofs.Commands.{Made, reactivate_plain, short_of, kept}
 use Rattle.kl_session.proofs.session.Session.reactivate.Goals as goal
 
 pub invariant_of-self : goal.invariant_of-self

@@ -3,7 +3,7 @@ use Rattle.kl_history.specs.Records.{past_of}
 use Rattle.kl_core.specs.Endings.{Removes, remove_makes}
 use Rattle.kl_session.specs.Endings.{says_done}
 use Rattle.kl_session.specs.Texts.{removed_line}
-use Rattle.kl_session.proofs.Commands.{Made, Plain, remove_plain, short_of, kept}
+use Rattle.kl_session.proofs.Commands.{Made, remove_plain, short_of, kept}
 use Rattle.kl_session.proofs.session.Session.remove.Goals as goal
 
 pub invariant_of-self : goal.invariant_of-self

@@ -1,5 +1,6 @@
 -- What the calls of a session do to its history, its tickets and its lines.
-use Rattle.std.proofs.Common.{◌≡◌, ℕ, ◌<◌, ◌≤◌, true, List, [], ◌∷◌, ◌++◌, Option, Some, None, Result, Ok, Err, ◌⊎◌, inl, inr, refl, ap, sym, ◌∙◌, subst, arith, append-nil}
+use Rattle.std.proofs.Common.{◌≡◌, ℕ, ◌≤◌, true, List, [], ◌∷◌, ◌++◌, Option, Some, None, Result, Ok, Err, ◌⊎◌, inl, inr}
+use Rattle.std.proofs.Common.{refl, ap, sym, ◌∙◌, subst, arith, append-nil}
 use Rattle.std.specs.Option.{option_map_or}
 use Rattle.kl_policy.specs.PolicyFields.{PolicyFields}
 use Rattle.kl_appraise.specs.Terms.{TermsFields}
@@ -14,8 +15,8 @@ use Rattle.kl_history.specs.Legal.{Legal, IsLegalPast}
 use Rattle.kl_history.proofs.Numbers.{open_drawn, drawn_bound}
 use Rattle.kl_history.proofs.Rows.{poll_numbers, is_open-stays, polls_in_order}
 use Rattle.kl_core.specs.declared.refusal.Refusal.{Refusal}
-use Rattle.kl_core.specs.Installs.{add_makes, replace_makes, reactivate_makes, with_policy}
-use Rattle.kl_core.specs.Endings.{stop_makes, remove_makes}
+use Rattle.kl_core.specs.Installs.{Adds, add_makes, Replaces, replace_makes, Reactivates, reactivate_makes, with_policy}
+use Rattle.kl_core.specs.Endings.{Stops, stop_makes, Removes, remove_makes}
 use Rattle.kl_core.specs.Begins.{Begins, begin_of}
 use Rattle.kl_core.specs.Tickets.{IsOpenTicket}
 use Rattle.kl_session.specs.Calls.{SessionFields, Answered}
@@ -25,72 +26,91 @@ use Rattle.kl_session.specs.Texts.{installed_line, stopped_line, removed_line}
 use Rattle.kl_session.specs.Inner.Tickets.{AreTickets}
 use Rattle.kl_session.proofs.Opened.{Leaves, behind, left_alone, begun}
 
--- ---- what is said of a call, and what it made
+-- ---- calls
 
--- The records neither begin nor close a poll; where nothing is said, there are none.
-pub record IsPlain (said : Option (List ℕ)) (made : List Record) : Type 0 where
+-- a call was answered, and has made its records
+pub record Made {A : Type 0} (Answers : A → Past → Type 0) (makes : A → Past → List Record) (H H' : History) (answer : A) : Type 0 where
+  pub answers : Answers answer (past_of H)
+  pub grown : H' ≡ H ++ makes answer (past_of H)
+
+-- the records neither begin nor close a poll, and where nothing is said there are none
+pub record Plain (said : Option (List ℕ)) (made : List Record) : Type 0 where
   pub leaves : Leaves made
   pub unless : ((line : List ℕ) × (said ≡ Some line)) ⊎ (made ≡ [])
-
-pub add_plain : (a : List ℕ) (t : TermsFields) (answer : Result ℕ (Refusal × TermsFields)) (before : Past) → IsPlain (says_installed_or a answer) (add_makes a t answer before)
-add_plain a t (Ok g) before = record { leaves = λ past p. refl; unless = inl (installed_line a g, refl) }
-add_plain a t (Err e) before = record { leaves = λ past p. refl; unless = inr refl }
-
-install_leaves : (a : List ℕ) (g : ℕ) (terms : Installed → TermsFields) (why : InstallWhy) (o : Option Installed)
-    → Leaves (option_map_or (λ (i : Installed). Install a g (terms i) why ∷ []) o [])
-install_leaves a g terms why (Some i) past p = refl
-install_leaves a g terms why None past p = refl
-
-pub replace_plain : (a : List ℕ) (q : PolicyFields) (answer : Result ℕ (Refusal × PolicyFields)) (before : Past) → IsPlain (says_installed_or a answer) (replace_makes a q answer before)
-replace_plain a q (Ok g) before = record { leaves = install_leaves a g (λ i. with_policy q i.terms) Replace (installed (own before a)); unless = inl (installed_line a g, refl) }
-replace_plain a q (Err e) before = record { leaves = λ past p. refl; unless = inr refl }
-
-pub reactivate_plain : (a : List ℕ) (answer : Result ℕ Refusal) (before : Past) → IsPlain (says_installed a answer) (reactivate_makes a answer before)
-reactivate_plain a (Ok g) before = record { leaves = install_leaves a g (λ i. i.terms) Reactivate (installed (own before a)); unless = inl (installed_line a g, refl) }
-reactivate_plain a (Err why) before = record { leaves = λ past p. refl; unless = inr refl }
-
-pub stop_plain : (a : List ℕ) (answer : Result (Unit {0}) Refusal) (before : Past) → IsPlain (says_done (stopped_line a) answer) (stop_makes a answer before)
-stop_plain a (Ok u) before = record { leaves = λ past p. refl; unless = inl (stopped_line a, refl) }
-stop_plain a (Err why) before = record { leaves = λ past p. refl; unless = inr refl }
-
-pub remove_plain : (a : List ℕ) (answer : Result (Unit {0}) Refusal) (before : Past) → IsPlain (says_done (removed_line a) answer) (remove_makes a answer before)
-remove_plain a (Ok u) before = record { leaves = λ past p. refl; unless = inl (removed_line a, refl) }
-remove_plain a (Err why) before = record { leaves = λ past p. refl; unless = inr refl }
 
 abbrev session : History → ℕ → SessionFields
 session H m = record { history = H; moment = m }
 
-pub done_of : {A : Type 0} (Answers : A → Past → Type 0) (makes : A → Past → List Record) (says : A → Option (List ℕ)) (H H' : History) (m : ℕ) (answer : A) (line : List ℕ)
-    → Answers answer (past_of H) → H' ≡ H ++ makes answer (past_of H) → says answer ≡ Some line → Answered Answers makes says (session H m) (session H' m) line
-done_of Answers makes says H H' m answer line answers grown said = record { answer = answer; answers = answers; after = ap (λ K. session K m) grown; said = said }
+module _ {A : Type 0} {Answers : A → Past → Type 0} {makes : A → Past → List Record} {H H' : History} {answer : A}
+    (made : Made Answers makes H H' answer) (says : A → Option (List ℕ)) where
+  -- it was done, where its line is said
+  pub done_of : (m : ℕ) (line : List ℕ) → says answer ≡ Some line → Answered Answers makes says (session H m) (session H' m) line
+  done_of m line said = record { answer = answer; answers = made.answers; after = ap (λ K. session K m) made.grown; said = said }
 
--- where memory runs out for the line, the call was done or nothing was
-pub short_of : {A : Type 0} (Answers : A → Past → Type 0) (makes : A → Past → List Record) (says : A → Option (List ℕ)) (H H' : History) (m : ℕ) (answer : A)
-    → Answers answer (past_of H) → H' ≡ H ++ makes answer (past_of H) → IsPlain (says answer) (makes answer (past_of H))
-    → ((line : List ℕ) × Answered Answers makes says (session H m) (session H' m) line) ⊎ (session H' m ≡ session H m)
-short_of Answers makes says H H' m answer answers grown plain = elim plain.unless [
-  | inl said ↦ inl (said.0, done_of Answers makes says H H' m answer said.0 answers grown said.1)
-  | inr none ↦ inr (ap (λ K. session K m) (grown ∙ ap (λ made. H ++ made) none ∙ append-nil H))
-]
+  -- where memory runs out for the line, it was done or nothing was
+  pub short_of : (m : ℕ) → Plain (says answer) (makes answer (past_of H))
+      → ((line : List ℕ) × Answered Answers makes says (session H m) (session H' m) line) ⊎ (session H' m ≡ session H m)
+  short_of m plain = elim plain.unless [
+    | inl said ↦ inl (said.0, done_of m said.0 said.1)
+    | inr none ↦ inr (ap (λ K. session K m) (made.grown ∙ ap (λ records. H ++ records) none ∙ append-nil H))
+  ]
 
--- ---- the tickets
+  -- the tickets stay those of the open polls
+  pub kept : (ts : List TicketFields) → Plain (says answer) (makes answer (past_of H)) → Legal H'
+      → AreTickets (past_of H) ts → AreTickets (past_of H') ts
+  kept ts plain legal are =
+      subst (λ (K : History). AreTickets (past_of K) ts) (sym made.grown)
+      (left_alone H (makes answer (past_of H)) ts plain.leaves (subst Legal made.grown legal) are)
 
--- the tickets stay those of the open polls
-pub kept : (H H' : History) (made : List Record) (ts : List TicketFields) → Leaves made → H' ≡ H ++ made → Legal H'
-    → AreTickets (past_of H) ts → AreTickets (past_of H') ts
-kept H H' made ts leaves grown legal are =
-    subst (λ (K : History). AreTickets (past_of K) ts) (sym grown) (left_alone H made ts leaves (subst Legal grown legal) are)
+-- ---- installs, stops and removals are plain
+
+none_plain : (said : Option (List ℕ)) → Plain said []
+none_plain said = record { leaves = λ past p. refl; unless = inr refl }
+
+pub add_plain : (a : List ℕ) (t : TermsFields) (answer : Result ℕ (Refusal × TermsFields)) (past : Past)
+    → Plain (says_installed_or a answer) (add_makes a t answer past)
+add_plain a t (Ok g) past = record { leaves = λ before p. refl; unless = inl (installed_line a g, refl) }
+add_plain a t (Err e) past = none_plain (says_installed_or {T = TermsFields} a (Err e))
+
+reinstall_leaves : (a : List ℕ) (g : ℕ) (terms : Installed → TermsFields) (why : InstallWhy) (o : Option Installed)
+    → Leaves (option_map_or (λ (i : Installed). Install a g (terms i) why ∷ []) o [])
+reinstall_leaves a g terms why (Some i) past p = refl
+reinstall_leaves a g terms why None past p = refl
+
+pub replace_plain : (a : List ℕ) (q : PolicyFields) (answer : Result ℕ (Refusal × PolicyFields)) (past : Past)
+    → Plain (says_installed_or a answer) (replace_makes a q answer past)
+replace_plain a q (Ok g) past =
+    let leaves = reinstall_leaves a g (λ i. with_policy q i.terms) Replace (installed (own past a)) in
+    record { leaves = leaves; unless = inl (installed_line a g, refl) }
+replace_plain a q (Err e) past = none_plain (says_installed_or {T = PolicyFields} a (Err e))
+
+pub reactivate_plain : (a : List ℕ) (answer : Result ℕ Refusal) (past : Past)
+    → Plain (says_installed a answer) (reactivate_makes a answer past)
+reactivate_plain a (Ok g) past =
+    let leaves = reinstall_leaves a g (λ i. i.terms) Reactivate (installed (own past a)) in
+    record { leaves = leaves; unless = inl (installed_line a g, refl) }
+reactivate_plain a (Err why) past = none_plain (says_installed a (Err why))
+
+pub stop_plain : (a : List ℕ) (answer : Result (Unit {0}) Refusal) (past : Past)
+    → Plain (says_done (stopped_line a) answer) (stop_makes a answer past)
+stop_plain a (Ok u) past = record { leaves = λ before p. refl; unless = inl (stopped_line a, refl) }
+stop_plain a (Err why) past = none_plain (says_done (stopped_line a) (Err why))
+
+pub remove_plain : (a : List ℕ) (answer : Result (Unit {0}) Refusal) (past : Past)
+    → Plain (says_done (removed_line a) answer) (remove_makes a answer past)
+remove_plain a (Ok u) past = record { leaves = λ before p. refl; unless = inl (removed_line a, refl) }
+remove_plain a (Err why) past = none_plain (says_done (removed_line a) (Err why))
 
 -- ---- a poll begins
 
-open_drawn_by : (past : Past) (p : ℕ) → IsLegalPast past → is_open past p ≡ true → p ≤ polls past
-open_drawn_by past p legal opened =
+drawn_by : (past : Past) (p : ℕ) → IsLegalPast past → is_open past p ≡ true → p ≤ polls past
+drawn_by past p legal opened =
     let found = open_drawn poll_numbers past p (sym (is_open-stays past p) ∙ opened) in
     (drawn_bound poll_numbers p found.2 (polls_in_order past legal) found.3).1
 
 -- its ticket comes behind the others
-pub joined : (H H' : History) (a n : List ℕ) (at : ℕ) (t : TicketFields) (ts : List TicketFields) → Begins a n at t (past_of H) → H' ≡ H ++ begin_of t at ∷ [] → Legal H'
-    → AreTickets (past_of H) ts → AreTickets (past_of H') (ts ++ t ∷ [])
+pub joined : (H H' : History) (a n : List ℕ) (at : ℕ) (t : TicketFields) (ts : List TicketFields) → Begins a n at t (past_of H)
+    → H' ≡ H ++ begin_of t at ∷ [] → Legal H' → AreTickets (past_of H) ts → AreTickets (past_of H') (ts ++ t ∷ [])
 joined H H' a n at t ts begins grown legal are =
     let now : past_of (H ++ begin_of t at ∷ []) ≡ begin_of t at ∷ past_of H = behind H (begin_of t at ∷ []) in
     let lawful : Legal (H ++ begin_of t at ∷ []) = subst Legal grown legal in
@@ -98,6 +118,6 @@ joined H H' a n at t ts begins grown legal are =
     let next = begins.next in
     subst (λ (K : History). AreTickets (past_of K) (ts ++ t ∷ [])) (sym grown)
     (begun H (begin_of t at) t ts lawful refl (λ p. refl) (λ p. refl)
-    (λ p is. let le = open_drawn_by (past_of H) p earlier is in omega arith)
+    (λ p is. let le = drawn_by (past_of H) p earlier is in omega arith)
     (subst (λ (past : Past). IsOpenTicket past t) (sym now) (begins.opened, begins.given))
     are)

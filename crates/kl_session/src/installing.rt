@@ -1,7 +1,6 @@
 //! Agents are installed.
 
-ghost use Rattle.std.specs.Prelude.{◌≡◌, ◌⊎◌, IfOk, IfErr, Some, List, ℕ, string_bytes};
-ghost use Rattle.kl_session.specs.Calls.{past};
+ghost use Rattle.std.specs.Prelude.{◌≡◌, IfOk, IfErr, Some, string_bytes};
 ghost use Rattle.kl_session.specs.Installs.{DoesAdd, DoesReplace, DoesReactivate, says_installed, says_installed_or};
 ghost use Rattle.kl_session.specs.Inner.Stopping.{IsShort};
 

@@ -1,15 +1,13 @@
 //! How far a session has come, and what a command does to it.
 
 ghost use Rattle.std.specs.Prelude.{◌≡◌, IfOk, IfErr, string_bytes};
-ghost use Rattle.kl_history.specs.Legal.{Legal};
 ghost use Rattle.kl_script.specs.Commands.{fields};
 ghost use Rattle.kl_session.specs.Outside.{outside};
-ghost use Rattle.kl_session.specs.Calls.{empty, past};
+ghost use Rattle.kl_session.specs.Calls.{empty};
 ghost use Rattle.kl_session.specs.Session.{Does};
 ghost use Rattle.kl_session.specs.States.{SaysState};
 ghost use Rattle.kl_session.specs.Texts.{now_line};
 ghost use Rattle.kl_session.specs.Stopped.{IsStopped};
-ghost use Rattle.kl_session.specs.Inner.Tickets.{AreTickets};
 
 use crate::refusals::say_refused;
 use crate::stop::Stop;

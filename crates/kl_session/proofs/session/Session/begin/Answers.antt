@@ -9,21 +9,29 @@ use Rattle.kl_session.specs.Inner.Stopping.{IsShort, IsUnbegun}
 use Rattle.kl_session.proofs.session.Session.begin.Goals as goal
 
 -- nothing was asked for a nonce that was named
-drawn_or_named : (o o' : Outside) (named : Option (List ℕ)) (nonce : List ℕ) → HasNonce o o' named nonce → (o' ≡ o) ⊎ ((named ≡ None) × ((drawn : List ℕ) × Draws o o' drawn))
+drawn_or_named : (o o' : Outside) (named : Option (List ℕ)) (nonce : List ℕ) → HasNonce o o' named nonce
+    → (o' ≡ o) ⊎ ((named ≡ None) × ((drawn : List ℕ) × Draws o o' drawn))
 drawn_or_named o o' (Some named) nonce has = inl has.0
 drawn_or_named o o' None nonce has = inr (refl, (nonce, has))
 
-unbegun : (stop : Stop) (o o' : Outside) (s s' : SessionFields) (b : Begin) (nonce : List ℕ) → HasNonce o o' b.nonce nonce → IsShort stop s s' (BeginsWith b.agent nonce s s') → IsUnbegun stop o o' s b s'
+unbegun : (stop : Stop) (o o' : Outside) (s s' : SessionFields) (b : Begin) (nonce : List ℕ)
+    → HasNonce o o' b.nonce nonce → IsShort stop s s' (BeginsWith b.agent nonce s s') → IsUnbegun stop o o' s b s'
 unbegun stop o o' s s' b nonce has (e, short) = subst (λ (why : Stop). IsUnbegun why o o' s b s') (sym e) (elim short [
   | inl did ↦ inl (did.0, (nonce, has, did.1))
   | inr same ↦ inr (same, drawn_or_named o o' b.nonce nonce has)
 ])
 
 pub returns-in_default-clause-stopped : goal.returns-in_default-clause-stopped
-returns-in_default-clause-stopped g c = λ keys steps. let none = c.nonce_of.ensures.none c.in_default.is in (refl, none.0, none.1 keys steps)
+returns-in_default-clause-stopped g c = λ keys steps.
+    let none = c.nonce_of.ensures.none c.in_default.is in
+    (refl, none.0, none.1 keys steps)
 
 pub returns-clause-stopped : goal.returns-clause-stopped
 returns-clause-stopped g c =
     IfErr-weaker c.begin_with.result _ _
-    (λ stop short. λ keys steps. unbegun stop (outside keys (g.N.Words.told c.args.nonces.now) steps) (outside keys (g.N.Words.told c.nonce_of.new.nonces) steps) c.args.self.now c.begin_with.new.self c.args.begin c.in-Some.nonce (c.in-Some.ensures.some keys steps) short)
+    (λ stop short. λ keys steps.
+    let o = outside keys (g.N.Words.told c.args.nonces.now) steps in
+    let o' = outside keys (g.N.Words.told c.nonce_of.new.nonces) steps in
+    let has = c.in-Some.ensures.some keys steps in
+    unbegun stop o o' c.args.self.now c.begin_with.new.self c.args.begin c.in-Some.nonce has short)
     c.begin_with.ensures.short

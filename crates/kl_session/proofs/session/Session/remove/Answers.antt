@@ -1,20 +1,26 @@
 use Rattle.std.proofs.lemmas.Result.{IfErr-weaker}
 use Rattle.kl_history.specs.Records.{past_of}
 use Rattle.kl_core.specs.Endings.{Removes, remove_makes}
-use Rattle.kl_session.specs.Endings.{DoesRemove, says_done}
+use Rattle.kl_session.specs.Endings.{says_done}
 use Rattle.kl_session.specs.Texts.{removed_line}
-use Rattle.kl_session.proofs.Commands.{IsPlain, remove_plain, short_of, kept}
+use Rattle.kl_session.proofs.Commands.{Made, remove_plain, short_of, kept}
 use Rattle.kl_session.proofs.session.Session.remove.Goals as goal
 
 pub invariant_of-self : goal.invariant_of-self
 invariant_of-self c =
     let b = c.self.inside in
-    let plain = remove_plain c.args.agent c.remove-answer.result (past_of b.book) in
-    kept b.book c.remove-answer.new.self _ b.tickets.items plain.leaves c.remove-answer.ensures.history c.len-len.ensures.legal c.self.invariant
+    let call = c.remove-answer in
+    let a = c.args.agent in
+    let made : Made (Removes a) (remove_makes a) b.book call.new.self call.result =
+    record { answers = call.ensures.answer; grown = call.ensures.history } in
+    kept made (says_done (removed_line a)) b.tickets.items (remove_plain a call.result (past_of b.book)) c.len-len.ensures.legal c.self.invariant
 
 pub returns-clause-short : goal.returns-clause-short
 returns-clause-short c =
     let b = c.self.inside in
-    let answer = c.remove-answer.result in
-    let short = short_of (Removes c.args.agent) (remove_makes c.args.agent) (says_done (removed_line c.args.agent)) b.book c.remove-answer.new.self b.moment answer c.remove-answer.ensures.answer c.remove-answer.ensures.history (remove_plain c.args.agent answer (past_of b.book)) in
+    let call = c.remove-answer in
+    let a = c.args.agent in
+    let made : Made (Removes a) (remove_makes a) b.book call.new.self call.result =
+    record { answers = call.ensures.answer; grown = call.ensures.history } in
+    let short = short_of made (says_done (removed_line a)) b.moment (remove_plain a call.result (past_of b.book)) in
     rw (← c.self.view_is) (IfErr-weaker c.say_removed.result _ _ (λ stop e. (e, short)) c.say_removed.ensures.short)

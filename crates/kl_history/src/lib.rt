@@ -10,7 +10,7 @@ mod sharing;
 mod worked;
 
 pub use laws::{
-    drawn_numbers, each_beginning, new_beginnings, open_counts, recorded_verdicts, released_shares,
+    drawn_numbers, each_beginning, looked_back, new_beginnings, open_counts, recorded_verdicts, released_shares,
     single_ends, single_standing, stale_records, told_failures,
 };
 pub use record::{InstallWhy, Record};

@@ -68,7 +68,7 @@ pub fn single_standing()
 {}
 
 /// The numbers of installed agents, open polls and open releases are what they are said to be, though each is told as a
-/// difference of two counts.
+/// difference of two counts; and at most 1,024 agents are installed.
 pub fn open_counts()
     ensures { (H : History) → Legal H → AreCounted (past_of H) }
 {}

@@ -14,4 +14,4 @@ pub use laws::{
     single_ends, single_standing, stale_records, told_failures,
 };
 pub use record::{InstallWhy, Record};
-pub use worked::{worked_deliveries, worked_ends, worked_lists, worked_polls};
+pub use worked::{worked_agents, worked_deliveries, worked_ends, worked_lists, worked_polls};

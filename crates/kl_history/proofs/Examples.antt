@@ -305,9 +305,6 @@ five_are_lost x r =
 
 -- ---- released, and replaced
 
-abbrev release_one : Record
-release_one = Release 1 a1 1 1
-
 released_rows : (x : Given) (r : Reply) → IsFound x.terms (x.nonce 1) r (Pass 2) → AreRows (past_of (released x r))
 released_rows x r found = (passed_rows x r found, (first_pass x r found).releases)
 

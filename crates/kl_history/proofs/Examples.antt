@@ -27,7 +27,7 @@ use Rattle.kl_history.specs.LookBacks.{Installed, installed, losses, missed, Pas
 use Rattle.kl_history.specs.Accepted.{no_boot, SignsBoot, HasAccepted, WasAccepted}
 use Rattle.kl_history.specs.States.{ended, is_current, handed_for, HasReached, IsDue, IsLiveOp}
 use Rattle.kl_history.specs.Legal.{MayClose, Row, weight_of, Legal}
-use Rattle.kl_history.specs.Worked.{a1, Given, Reply, IsFound, IsFoundNext, added, replaced, reactivated, begun, verdict, lost_poll, own_of, IsIn, Accepts, ClosesAs, IsNotBegun, IsNotReleased, polled, passed, FirstPass, late, LatePass, LateFailure, invalid, InvalidQuote, failed_twice, SecondFailure, added_again, gone, AddedAgain, four_losses, five_losses, FiveLosses, released, settled_late, passed_again, ReleasedAndReplaced, missed_delivery, four_missed, five_missed, Undelivered, polled_again, restarted, passed_anew, Rebooted, Continued, stopped, Stopped, PassWithoutShare, passed_afresh, arrived_before, OfTwo}
+use Rattle.kl_history.specs.Worked.{a1, Given, Reply, IsFound, IsFoundNext, added, replaced, reactivated, begun, verdict, lost_poll, own_of, IsIn, Accepts, ClosesAs, IsNotBegun, IsNotReleased, polled, passed, FirstPass, late, LatePass, LateFailure, invalid, InvalidQuote, failed_twice, SecondFailure, added_again, gone, AddedAgain, four_losses, five_losses, FiveLosses, released, settled_late, passed_again, ReleasedAndReplaced, missed_delivery, four_missed, five_missed, Undelivered, polled_again, restarted, passed_anew, Rebooted, Continued, stopped, Stopped, PassWithoutShare, passed_afresh, arrived_before, sent_and_replaced, sent_and_added, OfTwo}
 use Rattle.kl_history.proofs.ShortHistories.{AreRows, IsLight, legal_rows, idle, all_settled}
 use Rattle.kl_history.proofs.OneStanding.{boot_same, state_same}
 
@@ -296,6 +296,7 @@ five_are_lost x r =
       told = refl;
       not_begun = not_begun H op.Failed refl;
       dropped_between = (refl, inr (refl, quiet (own_of dropped_too) refl (λ none. grind arith)));
+      begins_then = (refl, refl, idle (past_of dropped_too) a1 1 refl, refl);
       then_lost = (refl, inl refl);
       found_between = refl;
       again = (refl, (_, refl, refl));
@@ -333,6 +334,22 @@ released_and_replaced x r q found too =
       at_start = (refl, inr (refl, (not_due (own_of (settled_late x r)) refl, refl, refl)));
       in_time = λ boot signs also. (refl, inr (refl, (reached_not_due (own_of (arrived_before x r q)) _ boot refl also (inl (1, refl, inl (refl, signs))), refl, refl)));
       afresh = (refl, inr (refl, (due_by (own_of (passed_afresh x r q)) _ _ refl x.has_v refl (λ boot _ none. none), refl)));
+      busy_still = λ n g p may. absurd (false≢true (sym (may.alone 1 1 refl)));
+      releases_anew = record {
+        next = refl;
+        with = _;
+        installed = refl;
+        named = refl;
+        due = due_by (own_of (sent_and_added x r q)) _ _ refl x.has_v refl (λ boot _ none. none);
+        op = op.ProvideV;
+        state = inr (refl, (due_by (own_of (sent_and_added x r q)) _ _ refl x.has_v refl (λ boot _ none. none), refl));
+        owed = refl;
+        alone = λ n p handed. absurd (none-some p handed);
+        pass = _;
+        passed = refl;
+        stands = refl;
+      };
+      arrives_late = (refl, inr (refl, (due_by (own_of (sent_and_added x r q ++ Settled 1 Arrived false ∷ [])) _ _ refl x.has_v refl (λ boot _ reached. not_counted x r q boot reached), refl)));
       same_boot = λ boot signs also. (refl, inr (refl, (reached_not_due (own_of H) _ boot refl also (inl (1, refl, inl (refl, signs))), refl, refl)));
       other_boot = λ first second signs also apart. (
         refl,
@@ -352,6 +369,10 @@ released_and_replaced x r q found too =
     unreached x r boot first second signs (inl (p, handed, inl (same, by))) is apart = apart (sym is ∙ boot_same r.evidence boot first by signs)
     unreached x r boot first second signs (inl (p, handed, inr none)) is apart = none
     unreached x r boot first second signs (inr none) is apart = none
+    -- a release from before the agent was added again reached no boot
+    not_counted : (x : Given) (r q : Reply) (boot : Boot) → ¬ (HasReached (Settled 1 Arrived false ∷ past_of (sent_and_added x r q)) boot)
+    not_counted x r q boot (inl (p, handed, by)) = none-some p handed
+    not_counted x r q boot (inr none) = none
 
 -- ---- undelivered
 
@@ -402,11 +423,13 @@ owed_again x r own k inst passes some unreached =
 pub undelivered : (x : Given) (r : Reply) → IsFound x.terms (x.nonce 1) r (Pass 2) → Undelivered x r
 undelivered x r found =
     let z : 0 ≤ 16777216 = omega arith in
+    let withdrawn_too = four_missed x r ++ Release 5 a1 1 1 ∷ Settled 5 (Withdrawn dropped.Keys) true ∷ [] in
     record {
       one = (refl, inr (refl, owed_again x r (own_of (passed x r ++ missed_delivery 1)) 0 refl refl refl (λ boot none. none)));
       four = (refl, inr (refl, owed_again x r (own_of (four_missed x r)) 3 refl refl refl (λ boot none. none)));
       four_late = refl;
       withdrawn = (refl, inr (refl, owed_again x r (own_of (four_missed x r ++ Release 5 a1 1 1 ∷ Settled 5 (Withdrawn dropped.Keys) true ∷ [])) 3 refl refl refl (λ boot none. none)));
+      releases_then = again_row x r (past_of withdrawn_too) 6 3 refl refl refl refl refl (λ boot none. none) (all_settled (past_of withdrawn_too) refl);
       then_arrived = refl;
       legal = legal_rows (past_of (five_missed x r)) (missed_again x r found) ((((((((((passed_light x r, z), z), z), z), z), z), z), z), z), z) (lit≤ tt);
       state = (refl, inl refl);

@@ -216,8 +216,8 @@ four_losses x =
 abbrev pub five_losses : Given → History
 five_losses x = four_losses x ++ begun x 5 1 ∷ lost_poll 5 ∷ []
 
--- The fifth loss in a row fails the agent, and makes one notice. What is dropped neither counts nor ends the count, and a
--- finding ends it. Made live again, the agent is at its start.
+-- The fifth loss in a row fails the agent, and makes one notice. What is dropped neither counts nor ends the count, and the next
+-- poll may begin; a finding ends it. Made live again, the agent is at its start.
 pub record FiveLosses (x : Given) (r : Reply) : Type 0 where
   pub four : IsIn (four_losses x) op.GetQuoteRetry
   pub four_lost : losses (own_of (four_losses x)) ≡ 4
@@ -227,6 +227,7 @@ pub record FiveLosses (x : Given) (r : Reply) : Type 0 where
   pub told : notices (five_losses x) ≡ one_notice 1 ByLosses
   pub not_begun : IsNotBegun (five_losses x)
   pub dropped_between : IsIn (four_losses x ++ begun x 5 1 ∷ Dropped 5 dropped.Keys ∷ []) op.GetQuoteRetry
+  pub begins_then : MayCome (four_losses x ++ begun x 5 1 ∷ Dropped 5 dropped.Keys ∷ []) (begun x 6 1)
   pub then_lost : IsIn (four_losses x ++ begun x 5 1 ∷ Dropped 5 dropped.Keys ∷ begun x 6 1 ∷ lost_poll 6 ∷ []) op.Failed
   pub found_between : losses (own_of (four_losses x ++ begun x 5 1 ∷ verdict 5 r (Pass 2) true ∷ [])) ≡ 0
   pub again : MayCome (five_losses x) (reactivated x 2)
@@ -250,9 +251,16 @@ arrived_before x r q = released x r ++ Settled 1 Arrived true ∷ replaced x 2 �
 abbrev pub passed_afresh : Given → Reply → Reply → History
 passed_afresh x r q = released x r ++ Settled 1 Arrived true ∷ Remove a1 ∷ added x 2 ∷ begun x 2 2 ∷ verdict 2 q (Pass 2) true ∷ []
 
+abbrev pub sent_and_replaced : Given → Reply → Reply → History
+sent_and_replaced x r q = released x r ++ replaced x 2 ∷ begun x 2 2 ∷ verdict 2 q (Pass 2) true ∷ []
+
+abbrev pub sent_and_added : Given → Reply → Reply → History
+sent_and_added x r q = released x r ++ Remove a1 ∷ added x 2 ∷ begun x 2 2 ∷ verdict 2 q (Pass 2) true ∷ []
+
 -- Terms are replaced while V is on its way: its arrival is stale, and counts for the boot that it reached. So a pass of that
 -- boot leaves nothing due, and a pass of another boot does. An arrival before the replacement counts too, but not one before the
--- agent was removed and added again.
+-- agent was removed and added again. Until V arrived it is not released again, but where the agent was added again: then a
+-- release of before neither bars another nor counts when it arrives.
 pub record ReleasedAndReplaced (x : Given) (r q : Reply) : Type 0 where
   pub busy : IsNotReleased (released x r)
   pub settles : SettlesAs (released x r ++ replaced x 2 ∷ []) 1 false
@@ -262,6 +270,9 @@ pub record ReleasedAndReplaced (x : Given) (r q : Reply) : Type 0 where
   pub other_boot : (first second : Boot) → SignsBoot r.evidence first → SignsBoot q.evidence second → second ≢ first → IsIn (passed_again x r q) op.ProvideV
   pub in_time : (boot : Boot) → SignsBoot r.evidence boot → SignsBoot q.evidence boot → IsIn (arrived_before x r q) op.GetQuote
   pub afresh : IsIn (passed_afresh x r q) op.ProvideV
+  pub busy_still : IsNotReleased (sent_and_replaced x r q)
+  pub releases_anew : MayCome (sent_and_added x r q) (Release 2 a1 2 2)
+  pub arrives_late : IsIn (sent_and_added x r q ++ Settled 1 Arrived false ∷ []) op.ProvideV
 
 -- ---- Undelivered
 
@@ -275,12 +286,13 @@ abbrev pub five_missed : Given → Reply → History
 five_missed x r = four_missed x r ++ missed_delivery 5
 
 -- The fifth delivery in a row that is missed fails the agent, and makes one notice. What is withdrawn neither counts nor ends
--- the count, and an arrival ends it.
+-- the count, and V may be released again; an arrival ends it.
 pub record Undelivered (x : Given) (r : Reply) : Type 0 where
   pub one : IsIn (passed x r ++ missed_delivery 1) op.ProvideVRetry
   pub four : IsIn (four_missed x r) op.ProvideVRetry
   pub four_late : missed (own_of (four_missed x r)) ≡ 4
   pub withdrawn : IsIn (four_missed x r ++ Release 5 a1 1 1 ∷ Settled 5 (Withdrawn dropped.Keys) true ∷ []) op.ProvideVRetry
+  pub releases_then : MayCome (four_missed x r ++ Release 5 a1 1 1 ∷ Settled 5 (Withdrawn dropped.Keys) true ∷ []) (Release 6 a1 1 1)
   pub then_arrived : missed (own_of (four_missed x r ++ Release 5 a1 1 1 ∷ Settled 5 Arrived true ∷ [])) ≡ 0
   pub legal : Legal (five_missed x r)
   pub state : IsIn (five_missed x r) op.Failed

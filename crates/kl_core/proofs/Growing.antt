@@ -333,7 +333,7 @@ book_replaced H past agents agents' openings drawn begun weighs capacity capacit
     book_again H past agents agents' openings drawn begun weighs capacity capacity' a (with_policy p t) Replace e book entry (
       record { generation = e.generation; terms = t },
       entry.says.terms_are ∙ ap (λ (t : TermsFields). Some (record { generation = e.generation; terms = t })) same,
-      record { contact = refl; bank = refl; mask = refl; statics = refl; ak = refl; v = refl },
+      refl,
     )
     (ap (λ (t : TermsFields). is_some t.v) (sym same) ∙ entry.says.v_is) refl up len room bytes enough
 

@@ -1,5 +1,5 @@
 -- The numbers of installed agents, of open polls and of open releases.
-use Rattle.std.proofs.Common.{◌≡◌, ℕ, suc, ◌+◌, ◌-◌, Bool, true, false, not, ◌&&◌, ◌||◌, cond, eqb, List, [], ◌∷◌, count_by, bytes_eq, is_some, refl, ap, sym, ◌∙◌, subst, arith}
+use Rattle.std.proofs.Common.{◌≡◌, ℕ, suc, ◌+◌, ◌-◌, ◌≤◌, Bool, true, false, not, ◌&&◌, ◌||◌, cond, eqb, List, [], ◌∷◌, count_by, bytes_eq, is_some, refl, ap, sym, ◌∙◌, subst, arith}
 use Rattle.std.proofs.lemmas.Bool.{false_from_ne_true}
 use Rattle.std.proofs.lemmas.Bool.Decides.{Decides-eqb}
 use Rattle.std.proofs.lemmas.Slice.Eq.{bytes_eq-Decides}
@@ -10,7 +10,7 @@ use Rattle.kl_history.specs.declared.record.Record.{Record}
 use Rattle.kl_history.specs.declared.record.Record.TheVariants.{Install, Remove}
 use Rattle.kl_history.specs.Records.{History, Past, past_of, is_open, is_unsettled, own}
 use Rattle.kl_history.specs.LookBacks.{installed}
-use Rattle.kl_history.specs.Legal.{Legal, IsLegalPast, Row, is_add, is_remove}
+use Rattle.kl_history.specs.Legal.{Legal, IsLegalPast, Row, is_add, is_remove, agents}
 use Rattle.kl_history.specs.Laws.{ThereAre, AreCounted}
 use Rattle.kl_history.proofs.Numbers.{Numbering, drawn, stays_open, Does, draw, close, neither, InOrder, open_drawn, drawn_bound, counted}
 use Rattle.kl_history.proofs.Rows.{poll_numbers, release_numbers, is_open-stays, is_unsettled-stays, polls_in_order, releases_in_order}
@@ -118,11 +118,30 @@ agent_tally : (past : Past) → IsLegalPast past → AgentTally past
 agent_tally [] legal = (0, there_are_none bytes_eq bytes_eq-Decides (is_there []) (λ a. refl), refl)
 agent_tally (r ∷ past) legal = agent_step past r legal.1 (agent_tally past legal.0)
 
+few_step : (past : Past) (r : Record) → Row past r → agents past ≤ 1024 → agents (r ∷ past) ≤ 1024
+few_step past (Install a g t Add) row few =
+    let more = counted is_add (Install a g t Add) past true refl in
+    let same = counted is_remove (Install a g t Add) past false refl in
+    omega (arith, more, same, row.1.1)
+few_step past (Remove a) row few =
+    let same = counted is_add (Remove a) past false refl in
+    let more = counted is_remove (Remove a) past true refl in
+    omega (arith, same, more, few)
+few_step past r row few =
+    let same = counted is_add r past false refl in
+    let also = counted is_remove r past false refl in
+    omega (arith, same, also, few)
+
+few_agents : (past : Past) → IsLegalPast past → agents past ≤ 1024
+few_agents [] legal = omega arith
+few_agents (r ∷ past) legal = few_step past r legal.1 (few_agents past legal.0)
+
 pub are_counted : (H : History) → Legal H → AreCounted (past_of H)
 are_counted H legal =
     let past = past_of H in
     record {
       installed_agents = as_difference bytes_eq (is_there past) (count_by is_add past) (count_by is_remove past) (agent_tally past legal);
+      few_agents = few_agents past legal;
       polls_open = as_difference eqb (is_open past) _ _ (let t = open_tally poll_numbers past (polls_in_order past legal) in
           (t.0, there_are_same eqb Decides-eqb (stays_open poll_numbers past) (is_open past) t.0 (is_open-stays past) t.1, t.2));
       releases_open = as_difference eqb (is_unsettled past) _ _ (let t = open_tally release_numbers past (releases_in_order past legal) in

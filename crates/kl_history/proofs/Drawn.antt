@@ -64,7 +64,7 @@ numbers_once H legal = record {
 -- ---- open polls
 
 -- a record that does not begin a poll leaves what its Begin names
-pub start_of-else : (r : Record) (past : Past) (p : ℕ) → begins p r ≡ false → start_of (r ∷ past) p ≡ start_of past p
+start_of-else : (r : Record) (past : Past) (p : ℕ) → begins p r ≡ false → start_of (r ∷ past) p ≡ start_of past p
 start_of-else (Begin q a g n at from) past p other = cond-false (eqb p q) (Some (record { agent = a; generation = g; nonce = n; at = at; from = from })) (start_of past p) other
 start_of-else _ past p other = refl
 

@@ -25,9 +25,9 @@ use Rattle.kl_history.specs.declared.record.Record.TheVariants.{Dropped, Release
 use Rattle.kl_history.specs.Records.{History, Past, past_of, Start, start_of, Handing, handing_of, handings, is_unsettled, is_open, terms_of, own}
 use Rattle.kl_history.specs.LookBacks.{Installed, installed, losses, missed, Passing, last_pass}
 use Rattle.kl_history.specs.Accepted.{no_boot, SignsBoot, HasAccepted, WasAccepted}
-use Rattle.kl_history.specs.States.{ended, is_current, HasReached, IsDue, IsLiveOp}
+use Rattle.kl_history.specs.States.{ended, is_current, handed_for, HasReached, IsDue, IsLiveOp}
 use Rattle.kl_history.specs.Legal.{MayClose, Row, weight_of, Legal}
-use Rattle.kl_history.specs.Worked.{a1, Given, Reply, IsFound, IsFoundNext, added, replaced, reactivated, begun, verdict, lost_poll, own_of, IsIn, Accepts, ClosesAs, IsNotBegun, IsNotReleased, polled, passed, FirstPass, late, LatePass, LateFailure, invalid, InvalidQuote, failed_twice, SecondFailure, added_again, gone, AddedAgain, four_losses, five_losses, FiveLosses, released, settled_late, passed_again, ReleasedAndReplaced, missed_delivery, four_missed, five_missed, Undelivered, polled_again, restarted, passed_anew, Rebooted, Continued, stopped, Stopped, PassWithoutShare, passed_afresh, arrived_before}
+use Rattle.kl_history.specs.Worked.{a1, Given, Reply, IsFound, IsFoundNext, added, replaced, reactivated, begun, verdict, lost_poll, own_of, IsIn, Accepts, ClosesAs, IsNotBegun, IsNotReleased, polled, passed, FirstPass, late, LatePass, LateFailure, invalid, InvalidQuote, failed_twice, SecondFailure, added_again, gone, AddedAgain, four_losses, five_losses, FiveLosses, released, settled_late, passed_again, ReleasedAndReplaced, missed_delivery, four_missed, five_missed, Undelivered, polled_again, restarted, passed_anew, Rebooted, Continued, stopped, Stopped, PassWithoutShare, passed_afresh, arrived_before, sent_and_replaced, sent_and_added, OfTwo}
 use Rattle.kl_history.proofs.ShortHistories.{AreRows, IsLight, legal_rows, idle, all_settled}
 use Rattle.kl_history.proofs.OneStanding.{boot_same, state_same}
 
@@ -60,11 +60,15 @@ closes_row : (past : Past) (p : ℕ) (s : Start) (now : Bool) → start_of past 
 closes_row past p s now began unclosed current = record { started = s; began = began; unclosed = unclosed; current = current }
 
 closes_as : (H : History) (p : ℕ) (s : Start) (now : Bool) → start_of (past_of H) p ≡ Some s → is_open (past_of H) p ≡ true → now ≡ is_current (own (past_of H) s.agent) s.generation → ClosesAs H p now
-closes_as H p s now began unclosed current = (
-  closes_row (past_of H) p s now began unclosed current,
-  λ c may.
-      may.current ∙ ap (λ (z : Start). is_current (own (past_of H) z.agent) z.generation) (same_Some may.started s (sym may.began ∙ began)) ∙ sym current,
-)
+closes_as H p s now began unclosed current = record {
+  may_lose = λ why. closes_row (past_of H) p s now began unclosed current;
+  loses = λ why c may. marked c may;
+  finds = λ e signed v c row. marked c row.0;
+  restarts = λ e signed c row. marked c row.0;
+}
+  where
+    marked : (c : Bool) → MayClose (past_of H) p c → c ≡ now
+    marked c may = may.current ∙ ap (λ (z : Start). is_current (own (past_of H) z.agent) z.generation) (same_Some may.started s (sym may.began ∙ began)) ∙ sym current
 
 -- the row of a verdict, behind what was accepted when its poll began
 verdict_row : (past : Past) (p : ℕ) (s : Start) (t : TermsFields) (r : Reply) (v : AnyVerdict) (now : Bool) (entries : List EntryFields) (boot : Boot) → start_of past p ≡ Some s → is_open past p ≡ true
@@ -140,23 +144,33 @@ first_pass x r found = record {
   legal = legal_rows (past_of (passed x r)) (passed_rows x r found) (passed_light x r) (lit≤ tt);
   state = (refl, inr (refl, (passed_due x r, refl)));
   accepts = passed_accepts x r;
-  releases = record {
-    next = refl;
-    with = _;
-    installed = refl;
-    named = refl;
-    due = passed_due x r;
-    op = op.ProvideV;
-    state = inr (refl, (passed_due x r, refl));
-    owed = refl;
-    alone = λ n p handed. absurd (none-some p handed);
-    pass = _;
-    passed = refl;
-    stands = refl;
-  };
+  whole = λ n at from row. row.3;
+  releases = release_row (past_of (passed x r)) refl refl refl (passed_due x r) refl refl (λ n p handed. none-some p handed);
+  lost_then = (refl, inr (refl, (lost_due, refl)));
+  releases_then = release_row (past_of (passed x r ++ begun x 2 1 ∷ lost_poll 2 ∷ [])) refl refl refl lost_due refl refl (λ n p handed. none-some p handed);
   arrived = λ boot signs. (refl, inr (refl, (reached_not_due (own_of (passed x r ++ Release 1 a1 1 1 ∷ Settled 1 Arrived true ∷ [])) _ boot refl signs (inl (1, refl, inl (refl, signs))), refl, refl)));
   none_told = refl;
 }
+  where
+    lost_due : IsDue (own_of (passed x r ++ begun x 2 1 ∷ lost_poll 2 ∷ []))
+    lost_due = due_by (own_of (passed x r ++ begun x 2 1 ∷ lost_poll 2 ∷ [])) _ _ refl x.has_v refl (λ boot _ none. none)
+    -- the first release
+    release_row : (past : Past) → handings past ≡ 0 → installed (own past a1) ≡ Some (record { generation = 1; terms = x.terms }) → last_pass (own past a1) ≡ Some (record { poll = 1; evidence = r.evidence })
+        → IsDue (own past a1) → ended (own past a1) ≡ None → missed (own past a1) ≡ 0 → ((n p : ℕ) → ¬ (handed_for n (own past a1) ≡ Some p)) → Row past (Release 1 a1 1 1)
+    release_row past none inst passes due live late alone = record {
+      next = ap (λ n. n + 1) (sym none);
+      with = _;
+      installed = inst;
+      named = refl;
+      due = due;
+      op = op.ProvideV;
+      state = inr (live, (due, late));
+      owed = refl;
+      alone = λ n p handed. absurd (alone n p handed);
+      pass = _;
+      passed = passes;
+      stands = refl;
+    }
 
 -- ---- a late pass and a late failure
 
@@ -176,6 +190,7 @@ late_pass x r found =
     let H = late x r (Pass 2) in
     let state : IsIn H op.Start = (refl, inr (refl, (not_due (own_of H) refl, refl, refl))) in
     record {
+      policy_alone = λ t row. row.1.2 ∙ ap (λ (i : Installed). record i.terms { policy = t.policy }) (sym (same_Some _ row.1.0 row.1.1));
       closes = closes_as (polled x ++ replaced x 2 ∷ []) 1 _ false refl refl refl;
       legal = late_legal x r (Pass 2) found;
       state = state;
@@ -281,22 +296,21 @@ five_are_lost x r =
       told = refl;
       not_begun = not_begun H op.Failed refl;
       dropped_between = (refl, inr (refl, quiet (own_of dropped_too) refl (λ none. grind arith)));
+      begins_then = (refl, refl, idle (past_of dropped_too) a1 1 refl, refl);
       then_lost = (refl, inl refl);
       found_between = refl;
       again = (refl, (_, refl, refl));
+      unchanged = λ t row. row.1.2 ∙ ap (λ (i : Installed). i.terms) (sym (same_Some _ row.1.0 row.1.1));
       at_start = (refl, inr (refl, (not_due (own_of (H ++ reactivated x 2 ∷ [])) refl, refl, refl)));
     }
 
 -- ---- released, and replaced
 
-abbrev release_one : Record
-release_one = Release 1 a1 1 1
-
 released_rows : (x : Given) (r : Reply) → IsFound x.terms (x.nonce 1) r (Pass 2) → AreRows (past_of (released x r))
 released_rows x r found = (passed_rows x r found, (first_pass x r found).releases)
 
 others_have_v : (x : Given) → IsSome x.others.v
-others_have_v x = ap (λ v. is_some v) x.differ.v ∙ x.has_v
+others_have_v x = ap (λ (t : TermsFields). is_some t.v) x.differ ∙ x.has_v
 
 pub released_and_replaced : (x : Given) (r q : Reply) → IsFound x.terms (x.nonce 1) r (Pass 2) → IsFound x.others (x.nonce 2) q (Pass 2) → ReleasedAndReplaced x r q
 unfolding HasAccepted
@@ -310,16 +324,32 @@ released_and_replaced x r q found too =
     let again_rows : AreRows (past_of again) = (settled_rows, (refl, refl, idle (past_of (settled_late x r)) a1 2 refl, refl)) in
     record {
       busy = λ n g p may. absurd (false≢true (sym (may.alone 1 1 refl)));
-      settles = (
-        record { handing = _; released = refl; unsettled = refl; current = refl },
-        λ c may.
-            may.current ∙ ap (λ (h : Handing). is_current (own (past_of changed) h.agent) h.generation) (same_Some may.handing _ (sym may.released)),
-      );
+      settles = record {
+        may_settle = λ o. record { handing = _; released = refl; unsettled = refl; current = refl };
+        settles = λ o c may.
+            may.current ∙ ap (λ (h : Handing). is_current (own (past_of changed) h.agent) h.generation) (same_Some may.handing _ (sym may.released));
+      };
       legal = legal_rows (past_of H) (again_rows, found_row (past_of again) 2 _ x.others q (Pass 2) true refl refl refl refl refl (refl, refl) too)
           (((((passed_light x r, omega arith), x.others_small), omega arith), omega arith), light q 2 (Pass 2) true) (lit≤ tt);
       at_start = (refl, inr (refl, (not_due (own_of (settled_late x r)) refl, refl, refl)));
       in_time = λ boot signs also. (refl, inr (refl, (reached_not_due (own_of (arrived_before x r q)) _ boot refl also (inl (1, refl, inl (refl, signs))), refl, refl)));
       afresh = (refl, inr (refl, (due_by (own_of (passed_afresh x r q)) _ _ refl x.has_v refl (λ boot _ none. none), refl)));
+      busy_still = λ n g p may. absurd (false≢true (sym (may.alone 1 1 refl)));
+      releases_anew = record {
+        next = refl;
+        with = _;
+        installed = refl;
+        named = refl;
+        due = due_by (own_of (sent_and_added x r q)) _ _ refl x.has_v refl (λ boot _ none. none);
+        op = op.ProvideV;
+        state = inr (refl, (due_by (own_of (sent_and_added x r q)) _ _ refl x.has_v refl (λ boot _ none. none), refl));
+        owed = refl;
+        alone = λ n p handed. absurd (none-some p handed);
+        pass = _;
+        passed = refl;
+        stands = refl;
+      };
+      arrives_late = (refl, inr (refl, (due_by (own_of (sent_and_added x r q ++ Settled 1 Arrived false ∷ [])) _ _ refl x.has_v refl (λ boot _ reached. not_counted x r q boot reached), refl)));
       same_boot = λ boot signs also. (refl, inr (refl, (reached_not_due (own_of H) _ boot refl also (inl (1, refl, inl (refl, signs))), refl, refl)));
       other_boot = λ first second signs also apart. (
         refl,
@@ -339,6 +369,10 @@ released_and_replaced x r q found too =
     unreached x r boot first second signs (inl (p, handed, inl (same, by))) is apart = apart (sym is ∙ boot_same r.evidence boot first by signs)
     unreached x r boot first second signs (inl (p, handed, inr none)) is apart = none
     unreached x r boot first second signs (inr none) is apart = none
+    -- a release from before the agent was added again reached no boot
+    not_counted : (x : Given) (r q : Reply) (boot : Boot) → ¬ (HasReached (Settled 1 Arrived false ∷ past_of (sent_and_added x r q)) boot)
+    not_counted x r q boot (inl (p, handed, by)) = none-some p handed
+    not_counted x r q boot (inr none) = none
 
 -- ---- undelivered
 
@@ -389,11 +423,13 @@ owed_again x r own k inst passes some unreached =
 pub undelivered : (x : Given) (r : Reply) → IsFound x.terms (x.nonce 1) r (Pass 2) → Undelivered x r
 undelivered x r found =
     let z : 0 ≤ 16777216 = omega arith in
+    let withdrawn_too = four_missed x r ++ Release 5 a1 1 1 ∷ Settled 5 (Withdrawn dropped.Keys) true ∷ [] in
     record {
       one = (refl, inr (refl, owed_again x r (own_of (passed x r ++ missed_delivery 1)) 0 refl refl refl (λ boot none. none)));
       four = (refl, inr (refl, owed_again x r (own_of (four_missed x r)) 3 refl refl refl (λ boot none. none)));
       four_late = refl;
       withdrawn = (refl, inr (refl, owed_again x r (own_of (four_missed x r ++ Release 5 a1 1 1 ∷ Settled 5 (Withdrawn dropped.Keys) true ∷ [])) 3 refl refl refl (λ boot none. none)));
+      releases_then = again_row x r (past_of withdrawn_too) 6 3 refl refl refl refl refl (λ boot none. none) (all_settled (past_of withdrawn_too) refl);
       then_arrived = refl;
       legal = legal_rows (past_of (five_missed x r)) (missed_again x r found) ((((((((((passed_light x r, z), z), z), z), z), z), z), z), z), z) (lit≤ tt);
       state = (refl, inl refl);
@@ -478,8 +514,14 @@ tenant_stopped x r found =
           ((polled_light x, omega arith), light r 1 (Pass 2) false) (lit≤ tt);
       state = (refl, inl refl);
       none_told = refl;
+      once = λ live. false≢true live;
       not_begun = not_begun H op.TenantFailed refl;
       not_released = not_released H op.TenantFailed (refl, inl refl) refl;
       again = (refl, (_, refl, refl));
       at_start = (refl, inr (refl, (not_due (own_of (H ++ reactivated x 2 ∷ [])) refl, refl, refl)));
     }
+
+-- ---- two agents
+
+pub records_of_two : (x : Given) (r : Reply) → OfTwo x r
+records_of_two x r = record { of_one = refl; of_other = refl }

@@ -8,6 +8,7 @@ pub mod Released
 pub mod Standing
 pub mod Failing
 pub mod OneStanding
+pub mod ToldAgain
 pub mod Tallies
 pub mod Counts
 pub mod ShortHistories

@@ -55,7 +55,7 @@ own-step P r past a yes' no' = elim (cases_Bool (belongs past a r)) [
 
 -- ---- where an agent's record stands
 
-pub own_at : (x : Record) (rest past : Past) (a : List ℕ) → Stands x rest (own past a) → (b : Past) × Stands x b past × (own b a ≡ rest) × (belongs b a x ≡ true)
+own_at : (x : Record) (rest past : Past) (a : List ℕ) → Stands x rest (own past a) → (b : Past) × Stands x b past × (own b a ≡ rest) × (belongs b a x ≡ true)
 own_at x rest [] a s = elim s [ ]
 own_at x rest (r ∷ past) a s = by_case (belongs past a r) refl s (own_at x rest past a) where
   by_case : (t : Bool) → belongs past a r ≡ t → Stands x rest (cond t (r ∷ own past a) (own past a))
@@ -67,7 +67,7 @@ own_at x rest (r ∷ past) a s = by_case (belongs past a r) refl s (own_at x res
   ]
   by_case false is t further = let found = further t in (found.0, earlier found.1, found.2, found.3)
 
-pub own_in : {x : Record} {b past : Past} (a : List ℕ) → Stands x b past → belongs b a x ≡ true → Stands x (own b a) (own past a)
+own_in : {x : Record} {b past : Past} (a : List ℕ) → Stands x b past → belongs b a x ≡ true → Stands x (own b a) (own past a)
 own_in {x} {b} a here is = subst (λ o. Stands x (own b a) o) (sym (own-yes x b a is)) here
 own_in {x} {b} a (earlier {newer = r} {past = past} s) is =
     let inside = own_in a s is in
@@ -101,7 +101,7 @@ terms_at (Install a h u w ∷ past) g t is = by_case (eqb g h) refl is (terms_at
   by_case false other found further = let rest = further found in (rest.0, rest.1, rest.2, earlier rest.3)
 terms_at (_ ∷ past) g t is = let rest = terms_at past g t is in (rest.0, rest.1, rest.2, earlier rest.3)
 
-pub install_at : (own : Past) (i : Installed) → installed own ≡ Some i → (a : List ℕ) × (w : InstallWhy) × (b : Past) × Stands (Install a i.generation i.terms w) b own
+install_at : (own : Past) (i : Installed) → installed own ≡ Some i → (a : List ℕ) × (w : InstallWhy) × (b : Past) × Stands (Install a i.generation i.terms w) b own
 install_at [] i is = absurd (none-some i is)
 install_at (Install a g t w ∷ own) i is =
     (a, w, own, subst (λ (x : Installed). Stands (Install a x.generation x.terms w) own (Install a g t w ∷ own)) (same_Some _ i is) here)

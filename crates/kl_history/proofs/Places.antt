@@ -39,7 +39,7 @@ pub legal_at : {r : Record} {b past : Past} → Stands r b past → IsLegalPast 
 legal_at here legal = legal
 legal_at (earlier s) legal = legal_at s legal.0
 
-pub legal_behind : (newer past : Past) → IsLegalPast (newer ++ past) → IsLegalPast past
+legal_behind : (newer past : Past) → IsLegalPast (newer ++ past) → IsLegalPast past
 legal_behind [] past legal = legal
 legal_behind (r ∷ newer) past legal = legal_behind newer past legal.0
 

@@ -92,7 +92,7 @@ owed_live own o (inl ended_so) owed =
     absurd (false≢true (sym (ended_not_owed (came is_stop own) (came is_invalid own) (came is_failed own || (eqb (losses own) 5 || eqb (missed own) 5)) o ended_so) ∙ owed))
 owed_live own o (inr live) owed = live.0
 
-pub current_from : (own : Past) (i : Installed) → installed own ≡ Some i → ended own ≡ None → is_current own i.generation ≡ true
+current_from : (own : Past) (i : Installed) → installed own ≡ Some i → ended own ≡ None → is_current own i.generation ≡ true
 current_from own i inst live =
     and_from (option_map_or (λ (x : Installed). eqb x.generation i.generation) (installed own) false) (is_none (ended own))
     (ap (λ o. option_map_or (λ (x : Installed). eqb x.generation i.generation) o false) inst ∙ eq-eqb i.generation i.generation refl) (ap is_none live)

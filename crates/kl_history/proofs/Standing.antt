@@ -21,7 +21,7 @@ use Rattle.kl_history.proofs.OwnRecords.{own-yes, own-no, own-step, bytes_eq-ref
 
 -- ---- what a record leaves
 
-pub nothing_moves : (r : Record) (own : Past) → counts_for_nothing r ≡ true → AreKept own (r ∷ own) × ((boot : Boot) → HasReached (r ∷ own) boot ↔ HasReached own boot)
+nothing_moves : (r : Record) (own : Past) → counts_for_nothing r ≡ true → AreKept own (r ∷ own) × ((boot : Boot) → HasReached (r ∷ own) boot ↔ HasReached own boot)
 unfolding HasAccepted
 nothing_moves (Install a g t w) own no' = absurd (false≢true no')
 nothing_moves (Begin p a g n at from) own no' = absurd (false≢true no')

@@ -240,8 +240,9 @@ abbrev pub ThereAre : {X : Type 0} → (X → X → Bool) → (X → Bool) → �
 ThereAre {X} same holds n = (items : List X) × IsDistinct same items × ((x : X) → list_any (same x) items ≡ holds x) × (length items ≡ n)
 
 -- The counts that a difference gives are the numbers of the agents that are installed, of the open polls and of the open
--- releases.
+-- releases. No more than 1,024 agents are installed.
 pub record AreCounted (past : Past) : Type 0 where
   pub installed_agents : ThereAre bytes_eq (λ a. is_some (installed (own past a))) (agents past)
+  pub few_agents : agents past ≤ 1024
   pub polls_open : ThereAre ◌==◌ (is_open past) (open_polls past)
   pub releases_open : ThereAre ◌==◌ (is_unsettled past) (open_releases past)

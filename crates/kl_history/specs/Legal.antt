@@ -33,14 +33,9 @@ is_remove _ = false
 abbrev pub agents : Past → ℕ
 agents past = count_by is_add past - count_by is_remove past
 
--- all terms but the policy are equal
-pub record DifferInPolicy (old new : TermsFields) : Type 0 where
-  pub contact : new.contact ≡ old.contact
-  pub bank : new.bank ≡ old.bank
-  pub mask : new.mask ≡ old.mask
-  pub statics : new.statics ≡ old.statics
-  pub ak : new.ak ≡ old.ak
-  pub v : new.v ≡ old.v
+-- the terms are equal but for the policy
+abbrev pub DifferInPolicy : TermsFields → TermsFields → Type 0
+DifferInPolicy old new = new ≡ record old { policy = new.policy }
 
 -- An Add is of an agent that is not installed, where fewer than 1,024 are; a Replace changes the policy alone, and a
 -- Reactivate nothing.

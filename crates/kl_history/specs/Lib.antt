@@ -6,4 +6,5 @@ pub mod Releases
 pub mod Legal
 pub mod Notices
 pub mod Laws
+pub mod Since
 pub mod Worked

@@ -6,7 +6,9 @@ use Rattle.kl_quote.specs.declared.evidence.Evidence.{Evidence}
 use Rattle.kl_states.specs.declared.op.Op.{Op}
 use Rattle.kl_states.specs.declared.op.Op.TheVariants as op
 use Rattle.kl_states.specs.declared.outcome.DropWhy.TheVariants as dropped
+use Rattle.kl_states.specs.declared.outcome.LostWhy.{LostWhy}
 use Rattle.kl_states.specs.declared.outcome.LostWhy.TheVariants as lost
+use Rattle.kl_states.specs.declared.outcome.Outcome.{Outcome}
 use Rattle.kl_states.specs.declared.outcome.Outcome.TheVariants.{Arrived, Missed, Withdrawn}
 use Rattle.kl_states.specs.declared.verdict.Verdict.{Verdict as AnyVerdict}
 use Rattle.kl_states.specs.declared.verdict.Verdict.TheVariants.{Pass, Failed, Invalid}
@@ -25,7 +27,7 @@ use Rattle.kl_history.specs.LookBacks.{losses, missed}
 use Rattle.kl_history.specs.Accepted.{no_boot, SignsBoot, IsAccepted, WasAccepted}
 use Rattle.kl_history.specs.States.{HasOp}
 use Rattle.kl_history.specs.Releases.{MayRelease}
-use Rattle.kl_history.specs.Legal.{DifferInPolicy, MayClose, MaySettle, Row, Legal}
+use Rattle.kl_history.specs.Legal.{DifferInPolicy, Row, Legal}
 use Rattle.kl_history.specs.Notices.{Why, ByVerdict, ByLosses, ByDeliveries, NoticeFields, notices}
 
 -- ---- What is given
@@ -91,13 +93,17 @@ Accepts H entries boot = IsAccepted (own_of H) entries boot
 abbrev pub MayCome : History → Record → Type 0
 MayCome H r = Row (past_of H) r
 
--- the poll is open, and a close of it is current or is not
-abbrev pub ClosesAs : History → ℕ → Bool → Type 0
-ClosesAs H p now = MayClose (past_of H) p now × ((c : Bool) → MayClose (past_of H) p c → c ≡ now)
+-- The poll is open, and each close of it that says whether it is current says this.
+pub record ClosesAs (H : History) (p : ℕ) (now : Bool) : Type 0 where
+  pub may_lose : (why : LostWhy) → MayCome H (Lost p why now)
+  pub loses : (why : LostWhy) (c : Bool) → MayCome H (Lost p why c) → c ≡ now
+  pub finds : (e : Evidence) (s : Bool) (v : AnyVerdict) (c : Bool) → MayCome H (Verdict p e s v c) → c ≡ now
+  pub restarts : (e : Evidence) (s c : Bool) → MayCome H (Restart p e s c) → c ≡ now
 
 -- and so the end of a delivery
-abbrev pub SettlesAs : History → ℕ → Bool → Type 0
-SettlesAs H n now = MaySettle (past_of H) n now × ((c : Bool) → MaySettle (past_of H) n c → c ≡ now)
+pub record SettlesAs (H : History) (n : ℕ) (now : Bool) : Type 0 where
+  pub may_settle : (o : Outcome) → MayCome H (Settled n o now)
+  pub settles : (o : Outcome) (c : Bool) → MayCome H (Settled n o c) → c ≡ now
 
 -- no poll of it may begin, and no release of V to it may be made
 abbrev pub IsNotBegun : History → Type 0
@@ -118,8 +124,8 @@ polled x = added x 1 ∷ begun x 1 1 ∷ []
 abbrev pub passed : Given → Reply → History
 passed x r = polled x ++ verdict 1 r (Pass 2) true ∷ []
 
--- The agent is polled, and the poll passes: the list is accepted up to the cut, and V may be released. Once it arrived, it is
--- due no more.
+-- The agent is polled, and the poll passes: the list is accepted up to the cut, and V may be released, also where the next
+-- poll is lost before that. Each poll asks for the whole list. Once V arrived, it is due no more.
 pub record FirstPass (x : Given) (r : Reply) : Type 0 where
   pub start : IsIn (added x 1 ∷ []) op.Start
   pub polling : IsIn (polled x) op.GetQuote
@@ -127,7 +133,10 @@ pub record FirstPass (x : Given) (r : Reply) : Type 0 where
   pub legal : Legal (passed x r)
   pub state : IsIn (passed x r) op.ProvideV
   pub accepts : (es : List EntryFields) (boot : Boot) → AreEntries r.evidence.list es → SignsBoot r.evidence boot → Accepts (passed x r) (take 2 es) boot
+  pub whole : (n : List ℕ) (at from : ℕ) → MayCome (passed x r) (Begin 2 a1 1 n at from) → from ≡ 0
   pub releases : MayCome (passed x r) (Release 1 a1 1 1)
+  pub lost_then : IsIn (passed x r ++ begun x 2 1 ∷ lost_poll 2 ∷ []) op.ProvideV
+  pub releases_then : MayCome (passed x r ++ begun x 2 1 ∷ lost_poll 2 ∷ []) (Release 1 a1 1 1)
   pub arrived : (boot : Boot) → SignsBoot r.evidence boot → IsIn (passed x r ++ Release 1 a1 1 1 ∷ Settled 1 Arrived true ∷ []) op.GetQuote
   pub none_told : notices (passed x r) ≡ []
 
@@ -140,9 +149,10 @@ PassWithoutShare t nonce at r = t.v ≡ None → IsIn (Install a1 1 t Add ∷ Be
 abbrev pub late : Given → Reply → AnyVerdict → History
 late x r v = polled x ++ replaced x 2 ∷ verdict 1 r v false ∷ []
 
--- Terms are replaced while a poll is open: its pass is stale and accepts nothing, the agent is at its start, and the next poll
--- is of the new generation.
+-- Terms are replaced, of which the policy alone changes, while a poll is open: its pass is stale and accepts nothing, the agent
+-- is at its start, and the next poll is of the new generation.
 pub record LatePass (x : Given) (r : Reply) : Type 0 where
+  pub policy_alone : (t : TermsFields) → MayCome (polled x) (Install a1 2 t Replace) → t ≡ record x.terms { policy = t.policy }
   pub closes : ClosesAs (polled x ++ replaced x 2 ∷ []) 1 false
   pub legal : Legal (late x r (Pass 2))
   pub state : IsIn (late x r (Pass 2)) op.Start
@@ -206,8 +216,8 @@ four_losses x =
 abbrev pub five_losses : Given → History
 five_losses x = four_losses x ++ begun x 5 1 ∷ lost_poll 5 ∷ []
 
--- The fifth loss in a row fails the agent, and makes one notice. What is dropped neither counts nor ends the count, and a
--- finding ends it. Made live again, the agent is at its start.
+-- The fifth loss in a row fails the agent, and makes one notice. What is dropped neither counts nor ends the count, and the next
+-- poll may begin; a finding ends it. Made live again, the agent is at its start.
 pub record FiveLosses (x : Given) (r : Reply) : Type 0 where
   pub four : IsIn (four_losses x) op.GetQuoteRetry
   pub four_lost : losses (own_of (four_losses x)) ≡ 4
@@ -217,9 +227,11 @@ pub record FiveLosses (x : Given) (r : Reply) : Type 0 where
   pub told : notices (five_losses x) ≡ one_notice 1 ByLosses
   pub not_begun : IsNotBegun (five_losses x)
   pub dropped_between : IsIn (four_losses x ++ begun x 5 1 ∷ Dropped 5 dropped.Keys ∷ []) op.GetQuoteRetry
+  pub begins_then : MayCome (four_losses x ++ begun x 5 1 ∷ Dropped 5 dropped.Keys ∷ []) (begun x 6 1)
   pub then_lost : IsIn (four_losses x ++ begun x 5 1 ∷ Dropped 5 dropped.Keys ∷ begun x 6 1 ∷ lost_poll 6 ∷ []) op.Failed
   pub found_between : losses (own_of (four_losses x ++ begun x 5 1 ∷ verdict 5 r (Pass 2) true ∷ [])) ≡ 0
   pub again : MayCome (five_losses x) (reactivated x 2)
+  pub unchanged : (t : TermsFields) → MayCome (five_losses x) (Install a1 2 t Reactivate) → t ≡ x.terms
   pub at_start : IsIn (five_losses x ++ reactivated x 2 ∷ []) op.Start
 
 -- ---- Released, and replaced
@@ -239,9 +251,16 @@ arrived_before x r q = released x r ++ Settled 1 Arrived true ∷ replaced x 2 �
 abbrev pub passed_afresh : Given → Reply → Reply → History
 passed_afresh x r q = released x r ++ Settled 1 Arrived true ∷ Remove a1 ∷ added x 2 ∷ begun x 2 2 ∷ verdict 2 q (Pass 2) true ∷ []
 
+abbrev pub sent_and_replaced : Given → Reply → Reply → History
+sent_and_replaced x r q = released x r ++ replaced x 2 ∷ begun x 2 2 ∷ verdict 2 q (Pass 2) true ∷ []
+
+abbrev pub sent_and_added : Given → Reply → Reply → History
+sent_and_added x r q = released x r ++ Remove a1 ∷ added x 2 ∷ begun x 2 2 ∷ verdict 2 q (Pass 2) true ∷ []
+
 -- Terms are replaced while V is on its way: its arrival is stale, and counts for the boot that it reached. So a pass of that
 -- boot leaves nothing due, and a pass of another boot does. An arrival before the replacement counts too, but not one before the
--- agent was removed and added again.
+-- agent was removed and added again. Until V arrived it is not released again, but where the agent was added again: then a
+-- release of before neither bars another nor counts when it arrives.
 pub record ReleasedAndReplaced (x : Given) (r q : Reply) : Type 0 where
   pub busy : IsNotReleased (released x r)
   pub settles : SettlesAs (released x r ++ replaced x 2 ∷ []) 1 false
@@ -251,6 +270,9 @@ pub record ReleasedAndReplaced (x : Given) (r q : Reply) : Type 0 where
   pub other_boot : (first second : Boot) → SignsBoot r.evidence first → SignsBoot q.evidence second → second ≢ first → IsIn (passed_again x r q) op.ProvideV
   pub in_time : (boot : Boot) → SignsBoot r.evidence boot → SignsBoot q.evidence boot → IsIn (arrived_before x r q) op.GetQuote
   pub afresh : IsIn (passed_afresh x r q) op.ProvideV
+  pub busy_still : IsNotReleased (sent_and_replaced x r q)
+  pub releases_anew : MayCome (sent_and_added x r q) (Release 2 a1 2 2)
+  pub arrives_late : IsIn (sent_and_added x r q ++ Settled 1 Arrived false ∷ []) op.ProvideV
 
 -- ---- Undelivered
 
@@ -264,12 +286,13 @@ abbrev pub five_missed : Given → Reply → History
 five_missed x r = four_missed x r ++ missed_delivery 5
 
 -- The fifth delivery in a row that is missed fails the agent, and makes one notice. What is withdrawn neither counts nor ends
--- the count, and an arrival ends it.
+-- the count, and V may be released again; an arrival ends it.
 pub record Undelivered (x : Given) (r : Reply) : Type 0 where
   pub one : IsIn (passed x r ++ missed_delivery 1) op.ProvideVRetry
   pub four : IsIn (four_missed x r) op.ProvideVRetry
   pub four_late : missed (own_of (four_missed x r)) ≡ 4
   pub withdrawn : IsIn (four_missed x r ++ Release 5 a1 1 1 ∷ Settled 5 (Withdrawn dropped.Keys) true ∷ []) op.ProvideVRetry
+  pub releases_then : MayCome (four_missed x r ++ Release 5 a1 1 1 ∷ Settled 5 (Withdrawn dropped.Keys) true ∷ []) (Release 6 a1 1 1)
   pub then_arrived : missed (own_of (four_missed x r ++ Release 5 a1 1 1 ∷ Settled 5 Arrived true ∷ [])) ≡ 0
   pub legal : Legal (five_missed x r)
   pub state : IsIn (five_missed x r) op.Failed
@@ -326,14 +349,66 @@ pub record Continued (x : Given) (r q : Reply) (d0 d1 d3 : EntryFields) (first s
 abbrev pub stopped : Given → Reply → History
 stopped x r = polled x ++ Stop a1 ∷ verdict 1 r (Pass 2) false ∷ []
 
--- The tenant stops the agent: a poll that is open closes as stale, no other begins, and there is no notice. Made live again, it
--- is at its start.
+-- The tenant stops the agent, once: a poll that is open closes as stale, no other begins, and there is no notice. Made live
+-- again, it is at its start.
 pub record Stopped (x : Given) (r : Reply) : Type 0 where
   pub closes : ClosesAs (polled x ++ Stop a1 ∷ []) 1 false
   pub legal : Legal (stopped x r)
   pub state : IsIn (stopped x r) op.TenantFailed
   pub none_told : notices (stopped x r) ≡ []
+  pub once : ¬ (MayCome (stopped x r) (Stop a1))
   pub not_begun : IsNotBegun (stopped x r)
   pub not_released : IsNotReleased (stopped x r)
   pub again : MayCome (stopped x r) (reactivated x 2)
   pub at_start : IsIn (stopped x r ++ reactivated x 2 ∷ []) op.Start
+
+-- ---- Two agents
+
+-- the other agent
+abbrev pub b1 : List ℕ
+b1 = codes "b1"
+
+abbrev pub begun_too : Given → ℕ → Record
+begun_too x p = Begin p b1 2 (x.nonce p) (x.at p) 0
+
+-- records of two agents, of each kind, one among another
+abbrev pub of_two : Given → Reply → History
+of_two x r =
+    added x 1
+    ∷ Install b1 2 x.terms Add
+    ∷ begun x 1 1
+    ∷ begun_too x 2
+    ∷ lost_poll 2
+    ∷ begun_too x 3
+    ∷ Dropped 3 dropped.Keys
+    ∷ begun_too x 4
+    ∷ Restart 4 r.evidence r.signed true
+    ∷ begun_too x 5
+    ∷ verdict 5 r (Pass 2) true
+    ∷ Release 1 b1 2 5
+    ∷ verdict 1 r (Pass 2) true
+    ∷ Release 2 a1 1 1
+    ∷ Settled 1 Missed true
+    ∷ Stop b1
+    ∷ Settled 2 Arrived true
+    ∷ Remove b1
+    ∷ []
+
+-- A record belongs to the agent that it names, or whose poll or release it names, and to no other.
+pub record OfTwo (x : Given) (r : Reply) : Type 0 where
+  pub of_one : own_of (of_two x r) ≡ Settled 2 Arrived true ∷ Release 2 a1 1 1 ∷ verdict 1 r (Pass 2) true ∷ begun x 1 1 ∷ added x 1 ∷ []
+  pub of_other : own (past_of (of_two x r)) b1
+    ≡ Remove b1
+    ∷ Stop b1
+    ∷ Settled 1 Missed true
+    ∷ Release 1 b1 2 5
+    ∷ verdict 5 r (Pass 2) true
+    ∷ begun_too x 5
+    ∷ Restart 4 r.evidence r.signed true
+    ∷ begun_too x 4
+    ∷ Dropped 3 dropped.Keys
+    ∷ begun_too x 3
+    ∷ lost_poll 2
+    ∷ begun_too x 2
+    ∷ Install b1 2 x.terms Add
+    ∷ []

@@ -14,6 +14,7 @@ ghost use Rattle.kl_history.specs.Laws.{
   AreOne,
   AreCounted,
 };
+ghost use Rattle.kl_history.specs.Since.{AreToldAgain};
 
 /// A beginning of a legal history is legal. So what holds of every legal history held at each place of it.
 pub fn each_beginning()
@@ -67,7 +68,13 @@ pub fn single_standing()
 {}
 
 /// The numbers of installed agents, open polls and open releases are what they are said to be, though each is told as a
-/// difference of two counts.
+/// difference of two counts; and at most 1,024 agents are installed.
 pub fn open_counts()
     ensures { (H : History) → Legal H → AreCounted (past_of H) }
+{}
+
+/// What is looked back for in an agent's records is what the last record that decides it says, and what came after that: each
+/// look-back is told in a second way, and the two agree.
+pub fn looked_back()
+    ensures { (own : Past) → AreToldAgain own }
 {}

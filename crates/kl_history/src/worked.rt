@@ -27,6 +27,7 @@ ghost use Rattle.kl_history.specs.Worked.{
   Rebooted,
   Continued,
   Stopped,
+  OfTwo,
 };
 
 /// A first pass, with a share V and without; a pass and a failure that come after a replacement; a quote that proves nothing; a second failure; and a pass
@@ -43,6 +44,11 @@ pub fn worked_polls()
         → IsFound x.terms (x.nonce 1) r (Failed why) → IsFound x.others (x.nonce 2) q (Failed because)
         → SecondFailure x r q why because }
     ensures added_again { (x : Given) (r : Reply) → IsFound x.terms (x.nonce 1) r (Pass 2) → AddedAgain x r }
+{}
+
+/// Whose records are whose, where those of two agents stand one among another.
+pub fn worked_agents()
+    ensures { (x : Given) (r : Reply) → OfTwo x r }
 {}
 
 /// Five losses in a row, and a stop.

@@ -7,6 +7,8 @@
 mod appraised;
 mod polling;
 mod sharing;
+#[cfg(test)]
+mod tests;
 mod ticket;
 
 pub use appraised::{Appraised, Parts};

@@ -2,10 +2,7 @@ pub mod Newlines
 pub mod Pieces
 pub mod Gathering
 pub mod Failing
-pub mod Replying
-pub mod Printing
 pub mod Following
 pub mod Playing
 pub mod Statuses
 pub mod Words
-pub mod OneOutput

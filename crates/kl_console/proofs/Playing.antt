@@ -1,298 +1,348 @@
--- The turns of a session, one after another.
-use Rattle.std.proofs.Common.{◌≡◌, ◌≤◌, ◌<◌, ◌+◌, ℕ, List, [], ◌∷◌, ◌++◌, length, Option, Result, Ok, Err, refl, sym, subst, ap, ◌∙◌, ◌⊎◌, inl, inr, arith, append_assoc, add-one}
-use Rattle.std.specs.List.{concat}
-use Rattle.std.specs.Io.KnownBytes.{Appends, Consumes}
+-- The turns of a run, one after another.
+use Rattle.std.proofs.Common.{◌≡◌, ◌≤◌, ◌+◌, ℕ, zero, suc, List, [], ◌∷◌, ◌++◌, length, Result, Ok, Err, refl, sym, subst, ap, ◌∙◌, ◌⊎◌, inl, inr, arith, append_assoc, append-nil}
+use Rattle.std.specs.Prelude.{Contains, ◌↔◌, true}
+use Rattle.std.specs.Io.KnownBytes.{Appends, Consumes, IsAtEnd}
 use Rattle.std.proofs.KnownBytes.{Appends-nil, Appends-trans, Consumes-nil, Consumes-trans}
-use Rattle.std.proofs.lemmas.List.{append-nil, length_push}
-use Rattle.std.proofs.lemmas.List.Elements.{All-append, All-cons, All-nil}
-use Rattle.std.proofs.lemmas.List.Folds.{concat-append}
-use Rattle.kl_io.specs.Calls.{one_more}
-use Rattle.kl_keys.specs.Relations.{Relations}
-use Rattle.kl_keys.specs.Told.{KeysTold}
-use Rattle.kl_script.specs.Commands.{ReplyFields}
+use Rattle.kl_io.specs.Calls.{n_more}
+use Rattle.kl_io.specs.Told.{SinkTold}
+use Rattle.kl_script.specs.Commands.{CommandFields, Spells}
+use Rattle.kl_history.specs.Records.{History, is_open}
+use Rattle.kl_session.specs.declared.stop.Stop.{Stop}
+use Rattle.kl_session.specs.declared.stop.Stop.TheVariants as stop
+use Rattle.kl_session.specs.Calls.{SessionFields, empty}
+use Rattle.kl_session.specs.Session.{Does}
+use Rattle.kl_session.specs.Stopped.{IsStopped}
 use Rattle.kl_console.specs.Calls.{count_after}
-use Rattle.kl_console.specs.Lines.{IsLine, ended}
-use Rattle.kl_console.specs.Texts.{fault_text}
-use Rattle.kl_console.specs.Session.{Stage, Empty, Installed, Polled, Over, Does}
-use Rattle.kl_console.specs.Script.{Follows, Session, IsBad, printed, next_number}
-use Rattle.kl_console.specs.Run.{Moment, CanPrint, Puts, Ran}
-use Rattle.kl_console.specs.Replies.{HasReply, IsAsked, IsMeasured}
-use Rattle.kl_console.specs.Inner.Stages.{stage_of}
-use Rattle.kl_console.specs.Inner.Turns.{Ends, ReadsReply, Turns}
-use Rattle.kl_console.specs.declared.session.Stage.{Stage as Kept}
-use Rattle.kl_console.specs.declared.turn.End.{End}
-use Rattle.kl_console.specs.declared.turn.End.TheVariants.{Done, Fault, ReadFault, WriteFault, Memory}
-use Rattle.kl_console.proofs.Following.{Does-ranks, Follows-more, rank}
+use Rattle.kl_console.specs.Lines.{IsLine, IsEnded, IsUnended, Comes, IsOverLimit, ended, script_limit}
+use Rattle.kl_console.specs.Script.{Executed, script_of, offset_of, printed, puts_of, puts_before, next_number, fault_line, SpellsNone, HasNoCommand, DoesNext}
+use Rattle.kl_console.specs.Run.{Moment, Ran, IsHistory, CanPrint, StopsNext}
+use Rattle.kl_console.specs.declared.line_reader.Found.TheVariants.{Line, Last, End as AtEnd, TooLong}
+use Rattle.kl_console.specs.declared.line_reader.ReadError.TheVariants as read
+use Rattle.kl_console.specs.Inner.Reading.{Reading, ReadsLine}
+use Rattle.kl_console.specs.Inner.Printing.{Writes, WritesFront, Prints}
+use Rattle.kl_console.specs.Inner.Turns.{Answers, Ends, EndsBy, Played, PlaysOn}
+use Rattle.kl_console.specs.declared.ending.End.{End}
+use Rattle.kl_console.specs.declared.ending.End.TheVariants.{Done, Fault, ReadFault, WriteFault, NoNonce, Over, Memory}
+use Rattle.std.proofs.lemmas.List.{length_push}
+use Rattle.kl_console.proofs.Following.{concat-more, count-more, ended-least, ended-length, ended-more, executed_more, none_executed, under}
 
--- ---- What was read and written
+-- ---- what was read and written
 
-ended-more : (lines : List (List ℕ)) (line rest : List ℕ) → ended (lines ++ line ∷ []) ++ rest ≡ ended lines ++ (line ++ 10 ∷ rest)
-ended-more [] line rest = append_assoc line (10 ∷ []) rest
-ended-more (l ∷ lines) line rest =
-    append_assoc l (10 ∷ ended (lines ++ line ∷ [])) rest ∙ ap (λ (t : List ℕ). l ++ 10 ∷ t) (ended-more lines line rest)
-    ∙ sym (append_assoc l (10 ∷ ended lines) (line ++ 10 ∷ rest))
+count_more : (n m k : ℕ) → count_after m (count_after n k) ≡ count_after (n + m) k
+count_more zero m k = let at : m ≡ zero + m = omega arith in ap (λ (x : ℕ). count_after x k) at
+count_more (suc n) zero k = let at : suc n ≡ suc n + zero = omega arith in ap (λ (x : ℕ). count_after x k) at
+count_more (suc n) (suc m) k =
+    let at : suc n + suc m ≡ suc (n + suc m) = omega arith in
+    let both : n_more (suc m) (n_more (suc n) k) ≡ n_more (suc (n + suc m)) k = omega arith in
+    both ∙ ap (λ (x : ℕ). count_after x k) (sym at)
 
-pub Ran-nothing : (a : Moment) → Ran a a [] []
-Ran-nothing a = (Consumes-nil a.script.left, Appends-nil a.out.held)
+-- more was read, and then written
+ran_on : (a b c : Moment) (consumed more written text : List ℕ) (n m : ℕ) → Ran a b consumed written n → Consumes b.script.left c.script.left more → Writes b.out c.out text m
+    → Ran a c (consumed ++ more) (written ++ text) (n + m)
+ran_on a b c consumed more written text n m ran took writes = record {
+  read = Consumes-trans a.script.left b.script.left c.script.left consumed more ran.read took;
+  wrote = Appends-trans a.out.held b.out.held c.out.held written text ran.wrote writes.wrote;
+  put = writes.put ∙ ap (count_after m) ran.put ∙ count_more n m a.out.calls.made;
+}
 
-Ran-on : (a b c : Moment) (consumed more written text : List ℕ) → Ran a b consumed written → Ran b c more text → Ran a c (consumed ++ more) (written ++ text)
-Ran-on a b c consumed more written text (reads, writes) (reads', writes') = (
-  Consumes-trans a.script.left b.script.left c.script.left consumed more reads reads',
-  Appends-trans a.out.held b.out.held c.out.held written text writes writes',
-)
+-- more was read, and nothing written
+ran_silent : (a b c : Moment) (consumed more written : List ℕ) (n : ℕ) → Ran a b consumed written n → Consumes b.script.left c.script.left more → c.out ≡ b.out → Ran a c (consumed ++ more) written n
+ran_silent a b c consumed more written n ran took same = record {
+  read = Consumes-trans a.script.left b.script.left c.script.left consumed more ran.read took;
+  wrote = subst (λ (out : SinkTold). Appends a.out.held out.held written) (sym same) ran.wrote;
+  put = subst (λ (out : SinkTold). out.calls.made ≡ count_after n a.out.calls.made) (sym same) ran.put;
+}
 
 -- the same bytes, put otherwise
-ran_as : (a b : Moment) (consumed consumed' written written' : List ℕ) → consumed ≡ consumed' → written ≡ written' → Ran a b consumed written → Ran a b consumed' written'
-ran_as a b consumed consumed' written written' reads writes ran =
-    (subst (Consumes a.script.left b.script.left) reads ran.0, subst (Appends a.out.held b.out.held) writes ran.1)
-
--- a session whose key object tells the same at last
-abbrev under : (keys then keys' : KeysTold) → Session keys then → keys' ≡ then → Session keys keys'
-under keys then keys' s same = record {
-  lines = s.lines;
-  texts = s.texts;
-  stage = s.stage;
-  each = s.each;
-  follows = subst (λ (k : KeysTold). Follows keys k Empty s.lines s.texts s.stage) (sym same) s.follows;
+ran_as : (a b : Moment) (consumed consumed' written written' : List ℕ) (n n' : ℕ) → consumed ≡ consumed' → written ≡ written' → n ≡ n' → Ran a b consumed written n → Ran a b consumed' written' n'
+ran_as a b consumed consumed' written written' n n' reads writes puts ran = record {
+  read = subst (Consumes a.script.left b.script.left) reads ran.read;
+  wrote = subst (Appends a.out.held b.out.held) writes ran.wrote;
+  put = ran.put ∙ ap (λ (k : ℕ). count_after k a.out.calls.made) puts;
 }
 
--- the bytes that were read, after a turn
-joined : (lines : List (List ℕ)) (consumed ahead more : List ℕ) → consumed ≡ ended lines ++ ahead → consumed ++ more ≡ ended lines ++ (ahead ++ more)
-joined lines consumed ahead more e = ap (λ (t : List ℕ). t ++ more) e ∙ append_assoc (ended lines) ahead more
+-- what was put ahead before, and then read, is what comes behind the lines
+ran_next : (a c : Moment) (front ahead more written : List ℕ) (n : ℕ) → Ran a c ((front ++ ahead) ++ more) written n → Ran a c (front ++ (ahead ++ more)) written n
+ran_next a c front ahead more written n ran = ran_as a c _ _ written written n n (append_assoc front ahead more) refl refl ran
 
--- puts after others
-Puts-one : (a b c : Moment) (n : ℕ) → Puts a b n → Puts b c 1 → Puts a c (n + 1)
-Puts-one a b c n first one = one ∙ ap one_more first ∙ ap (λ (k : ℕ). count_after k a.out.calls.made) (sym (add-one n))
+-- ---- before the first turn
 
-Puts-none : (a b c : Moment) (n : ℕ) → Puts a b n → Puts b c 0 → Puts a c n
-Puts-none a b c n first none = none ∙ first
-
--- ---- What a session has come to after some turns
-
-pub record Played (before now : Moment) (ahead : List ℕ) (stage : Stage) (number : ℕ) : Type 0 where
-  pub session : Session before.keys now.keys
-  pub consumed : List ℕ
-  pub ran : Ran before now consumed (printed session)
-  pub puts : Puts before now (length session.lines)
-  pub at : session.stage ≡ stage
-  pub cut : consumed ≡ ended session.lines ++ ahead
-  pub numbered : number ≡ next_number session
-  pub ranked : number + rank stage ≤ 4
-
-abbrev nothing_yet : (keys : KeysTold) → Session keys keys
-nothing_yet keys = record { lines = []; texts = []; stage = Empty; each = All-nil IsLine; follows = (refl, refl) }
-
-pub played_start : (a : Moment) (ahead : List ℕ) → ahead ≡ [] → Played a a ahead Empty 1
-played_start a ahead none = record {
-  session = nothing_yet a.keys;
-  consumed = [];
-  ran = Ran-nothing a;
-  puts = refl;
-  at = refl;
-  cut = sym none;
+pub played_first : (a : Moment) (r : Reading) (s : SessionFields) → r.ahead ≡ [] → r.passed ≡ 0 → s ≡ empty → Played a a r s 1
+played_first a r s none zeroth is = record {
+  executed = none_executed a.outside;
+  ran = record {
+    read = subst (Consumes a.script.left a.script.left) (sym none) (Consumes-nil a.script.left);
+    wrote = Appends-nil a.out.held;
+    put = refl;
+  };
+  at = sym is;
+  passed = zeroth;
   numbered = refl;
-  ranked = omega arith;
 }
 
--- a turn after others
-pub played_turn : (a b c : Moment) (ahead ahead' : List ℕ) (stage : Stage) (number : ℕ) (next : Kept) → Played a b ahead stage number
-    → Turns number stage ahead ahead' b c (Ok next) → Played a c ahead' (stage_of next) (number + 1)
-played_turn a b c ahead ahead' stage number next p t =
-    let more = t.consumed in
-    let text = t.written in
-    let line = t.does.0 in
-    let whole = t.does.2 in
-    let does = t.does.3 in
-    let s = p.session in
-    let here : Does b.keys c.keys s.stage line (stage_of next) text = subst (λ (stage : Stage). Does b.keys c.keys stage line (stage_of next) text) (sym p.at) does in
-    let lower = Does-ranks b.keys c.keys stage line (stage_of next) text does in
-    let prints : concat s.texts ++ text ≡ concat (s.texts ++ text ∷ []) = ap (λ (u : List ℕ). concat s.texts ++ u) (sym (append-nil text)) ∙ sym (concat-append s.texts (text ∷ [])) in
-    record {
-      session = record {
-        lines = s.lines ++ line ∷ [];
-        texts = s.texts ++ text ∷ [];
-        stage = stage_of next;
-        each = All-append IsLine s.lines (line ∷ []) s.each (All-cons IsLine line [] whole (All-nil IsLine));
-        follows = Follows-more a.keys b.keys c.keys Empty s.lines s.texts s.stage line text (stage_of next) s.follows here;
-      };
-      consumed = p.consumed ++ more;
-      ran = subst (Ran a c (p.consumed ++ more)) prints (Ran-on a b c p.consumed t.consumed (printed s) t.written p.ran t.ran);
-      puts = subst (Puts a c) (sym (length_push s.lines line)) (Puts-one a b c (length s.lines) p.puts t.puts);
-      at = refl;
-      cut = joined s.lines p.consumed ahead more p.cut ∙ ap (λ (u : List ℕ). ended s.lines ++ u) t.does.1 ∙ sym (ended-more s.lines line ahead');
-      numbered = omega (arith, p.numbered, length_push s.lines line);
-      ranked = omega (arith, p.ranked, lower);
-    }
+-- ---- one turn more
 
--- a turn that goes on leaves fewer to come
-pub turn_ranks : (a b : Moment) (number : ℕ) (stage : Stage) (ahead ahead' : List ℕ) (next : Kept) → Turns number stage ahead ahead' a b (Ok next) → rank (stage_of next) < rank stage
-turn_ranks a b number stage ahead ahead' next t = Does-ranks a.keys b.keys stage t.does.0 (stage_of next) t.written t.does.3
+module _ (a b c : Moment) (old : Reading) (line consumed : List ℕ) (s : SessionFields) (number : ℕ) (p : Played a b old s number) (took : Consumes b.script.left c.script.left consumed) where
+  -- the lines before, and the bytes behind them that were read
+  abbrev e : Executed a.outside b.outside
+  e = p.executed
 
--- what was read and written, with a turn more
-ran_on : (a b c : Moment) (ahead ahead' : List ℕ) (stage : Stage) (number : ℕ) (result : Result Kept End) (p : Played a b ahead stage number) (t : Turns number stage ahead ahead' b c result)
-    → Ran a c (p.consumed ++ t.consumed) (printed p.session ++ t.written)
-ran_on a b c ahead ahead' stage number result p t = Ran-on a b c p.consumed t.consumed (printed p.session) t.written p.ran t.ran
+  abbrev rest : List ℕ
+  rest = old.ahead ++ consumed
 
--- nothing is written
-silent : {keys keys' : KeysTold} (s : Session keys keys') (text : List ℕ) → text ≡ [] → printed s ++ text ≡ printed s
-silent s text none = ap (λ (u : List ℕ). printed s ++ u) none ∙ append-nil (printed s)
+  wrote_more : (text : List ℕ) (puts : ℕ) → Writes b.out c.out text puts → Ran a c (script_of e ++ rest) (printed e ++ text) (puts_before e + puts)
+  wrote_more text puts writes =
+      ran_next a c (script_of e) old.ahead consumed (printed e ++ text) (puts_before e + puts) (ran_on a b c (script_of e ++ old.ahead) consumed (printed e) text (puts_before e) puts p.ran took writes)
 
--- the last turn
-pub played_end : (a b c : Moment) (ahead ahead' : List ℕ) (stage : Stage) (number : ℕ) (end : End) → Played a b ahead stage number
-    → Turns number stage ahead ahead' b c (Err end) → Ends a c end
-unfolding Ends
-played_end a b c ahead ahead' stage number Done p t =
-    let s = p.session in
-    let reads = joined s.lines p.consumed ahead t.consumed p.cut ∙ ap (λ (u : List ℕ). ended s.lines ++ u) t.does.0 ∙ append-nil (ended s.lines) in (
-      under a.keys b.keys c.keys s t.does.3,
-      ran_as a c _ _ _ _ reads (silent s t.written t.does.2) (ran_on a b c ahead ahead' stage number (Err Done) p t),
-      Puts-none a b c (length s.lines) p.puts t.puts,
-      t.does.1,
-    )
-played_end a b c ahead ahead' stage number Fault p t =
-    let s = p.session in
-    let writes = ap (λ (u : List ℕ). printed s ++ u) (t.does.1 ∙ ap fault_text p.numbered) in (
-      under a.keys b.keys c.keys s t.does.2,
-      ahead ++ t.consumed,
-      ran_as a c _ _ _ _ (joined s.lines p.consumed ahead t.consumed p.cut) writes (ran_on a b c ahead ahead' stage number (Err Fault) p t),
-      Puts-one a b c (length s.lines) p.puts t.puts,
-      subst (λ (stage : Stage). IsBad c.script.left stage (ahead ++ t.consumed)) (sym p.at) t.does.0,
-    )
-played_end a b c ahead ahead' stage number ReadFault p t =
-    let s = p.session in (
-      under a.keys b.keys c.keys s t.does.2,
-      ahead ++ t.consumed,
-      ran_as a c _ _ _ _ (joined s.lines p.consumed ahead t.consumed p.cut) (silent s t.written t.does.1) (ran_on a b c ahead ahead' stage number (Err ReadFault) p t),
-      Puts-none a b c (length s.lines) p.puts t.puts,
-      t.does.0,
-    )
-played_end a b c ahead ahead' stage number WriteFault p t =
-    let s = p.session in
-    let text = t.does.0 in
-    let can = subst (λ (n : ℕ). CanPrint b.keys c.keys n c.script.left stage (ahead ++ t.consumed) text) p.numbered t.does.2 in (
-      b.keys,
-      s,
-      ahead ++ t.consumed,
-      text,
-      t.written,
-      t.does.1,
-      ran_as a c _ _ _ _ (joined s.lines p.consumed ahead t.consumed p.cut) refl (ran_on a b c ahead ahead' stage number (Err WriteFault) p t),
-      Puts-one a b c (length s.lines) p.puts t.puts,
-      subst (λ (stage : Stage). CanPrint b.keys c.keys (next_number s) c.script.left stage (ahead ++ t.consumed) text) (sym p.at) can,
-      t.does.3,
-    )
-played_end a b c ahead ahead' stage number Memory p t =
-    let s = p.session in (
-      b.keys,
-      s,
-      ahead ++ t.consumed,
-      ran_as a c _ _ _ _ (joined s.lines p.consumed ahead t.consumed p.cut) (silent s t.written t.does) (ran_on a b c ahead ahead' stage number (Err Memory) p t),
-      Puts-none a b c (length s.lines) p.puts t.puts,
-    )
+  wrote_none : c.out ≡ b.out → Ran a c (script_of e ++ rest) (printed e) (puts_before e)
+  wrote_none same = ran_next a c (script_of e) old.ahead consumed (printed e) (puts_before e) (ran_silent a b c (script_of e ++ old.ahead) consumed (printed e) (puts_before e) p.ran took same)
+
+  comes_next : Comes old.passed c.script.left rest line → Comes (offset_of e) c.script.left rest line
+  comes_next comes = subst (λ (n : ℕ). Comes n c.script.left rest line) p.passed comes
+
+  over_next : IsOverLimit old.passed rest → IsOverLimit (offset_of e) rest
+  over_next over = subst (λ (n : ℕ). IsOverLimit n rest) p.passed over
+
+  fault_next : fault_line number ≡ fault_line (next_number e)
+  fault_next = ap fault_line p.numbered
+
+  does_next : (NextLine : List ℕ → Type 0) (s' : SessionFields) (cmd : CommandFields) (text : List ℕ) → NextLine line → Spells line cmd → Does b.outside c.outside s cmd s' text
+      → DoesNext e c.outside NextLine s' text
+  does_next NextLine s' cmd text next spelled does = record {
+    line = line;
+    next_line = next;
+    command = cmd;
+    spelled = spelled;
+    does = subst (λ (x : SessionFields). Does b.outside c.outside x cmd s' text) (sym p.at) does;
+  }
+
+  stops_next : (why : Stop) (s' : SessionFields) (cmd : CommandFields) → Comes old.passed c.script.left rest line → Spells line cmd → IsStopped why b.outside c.outside s cmd s'
+      → StopsNext e why c.outside c.script.left rest s'
+  stops_next why s' cmd comes spelled stopped = record {
+    line = line;
+    next_line = comes_next comes;
+    command = cmd;
+    spelled = spelled;
+    stopped = subst (λ (x : SessionFields). IsStopped why b.outside c.outside x cmd s') (sym p.at) stopped;
+  }
+
+  history_before : (s' : SessionFields) (H : History) → s' ≡ s → IsHistory s' H → IsHistory e.last H
+  history_before s' H same is = subst (λ (x : SessionFields). IsHistory x H) (same ∙ sym p.at) is
+
+  -- the script ended behind a newline
+  pub ends_done : rest ≡ [] → IsAtEnd c.script.left → c.out ≡ b.out → c.outside ≡ b.outside → Ends a c s Done
+  unfolding EndsBy
+  ends_done none end out same = λ H history. (
+    end,
+    inl (
+      under a.outside b.outside c.outside e same,
+      ran_as a c _ _ _ _ _ _ (ap (λ (t : List ℕ). script_of e ++ t) none ∙ append-nil (script_of e)) refl refl (wrote_none out),
+      history_before s H refl history,
+    ),
+  )
+
+  -- the source met a fault
+  pub ends_broken : IsLine rest → c.out ≡ b.out → c.outside ≡ b.outside → Ends a c s ReadFault
+  unfolding EndsBy
+  ends_broken part out same = λ H history. (under a.outside b.outside c.outside e same, rest, wrote_none out, part, history_before s H refl history)
+
+  -- memory ran out
+  pub ends_short : (s' : SessionFields) → s' ≡ s → c.out ≡ b.out → c.outside ≡ b.outside → Ends a c s' Memory
+  unfolding EndsBy
+  ends_short s' still out same = λ H history. (b.outside, e, rest, s', wrote_none out, inl (same, still ∙ sym p.at), history)
+
+  -- which line is bad was not written whole
+  complains_cut : (s' : SessionFields) → s' ≡ s → HasNoCommand (offset_of e) c.script.left rest ⊎ IsOverLimit (offset_of e) rest → c.outside ≡ b.outside
+      → WritesFront b.out c.out (fault_line number) → Ends a c s' WriteFault
+  unfolding EndsBy
+  complains_cut s' still bad same w = λ H history. (
+    b.outside,
+    e,
+    rest,
+    s',
+    w.front,
+    w.lost,
+    wrote_more w.front 1 w.writes,
+    subst (λ (text : List ℕ). CanPrint e c.outside c.script.left rest s' text) w.parts (inr (bad, same, still ∙ sym p.at, fault_next)),
+    history,
+  )
+
+  complains_whole : Writes b.out c.out (fault_line number) 1 → Ran a c (script_of e ++ rest) (printed e ++ fault_line (next_number e)) (puts_before e + 1)
+  complains_whole writes = ran_as a c _ _ _ _ _ _ refl (ap (λ (t : List ℕ). printed e ++ t) fault_next) refl (wrote_more (fault_line number) 1 writes)
+
+  -- a line is too long, or the script
+  pub ends_over : IsOverLimit old.passed rest → c.outside ≡ b.outside → Writes b.out c.out (fault_line number) 1 → Ends a c s Over
+  unfolding EndsBy
+  ends_over over same writes = λ H history. (under a.outside b.outside c.outside e same, rest, complains_whole writes, over_next over, history_before s H refl history)
+
+  pub over_unsaid : (end : End) → IsOverLimit old.passed rest → c.outside ≡ b.outside → Prints b.out c.out (fault_line number) (Err end) → Ends a c s end
+  over_unsaid WriteFault over same h = complains_cut s refl (inr (over_next over)) same h
+  over_unsaid Memory over same h = ends_short s refl h same
+  over_unsaid Done over same h = absurd h
+  over_unsaid Fault over same h = absurd h
+  over_unsaid ReadFault over same h = absurd h
+  over_unsaid NoNonce over same h = absurd h
+  over_unsaid Over over same h = absurd h
+
+  -- ---- a line comes
+
+  -- its command was done, and its text not written whole
+  text_cut : (s' : SessionFields) (cmd : CommandFields) (text : List ℕ) → Comes old.passed c.script.left rest line → Spells line cmd → Does b.outside c.outside s cmd s' text → WritesFront b.out c.out text
+      → Ends a c s' WriteFault
+  unfolding EndsBy
+  text_cut s' cmd text comes spelled does w = λ H history. (
+    b.outside,
+    e,
+    rest,
+    s',
+    w.front,
+    w.lost,
+    wrote_more w.front 1 w.writes,
+    subst (λ (text : List ℕ). CanPrint e c.outside c.script.left rest s' text) w.parts (inl (w.some, does_next (Comes (offset_of e) c.script.left rest) s' cmd text (comes_next comes) spelled does)),
+    history,
+  )
+
+  -- no nonce could be drawn for it
+  ends_dry : (s' : SessionFields) (cmd : CommandFields) → Comes old.passed c.script.left rest line → Spells line cmd → IsStopped stop.NoNonce b.outside c.outside s cmd s' → c.out ≡ b.out → Ends a c s' NoNonce
+  unfolding EndsBy
+  ends_dry s' cmd comes spelled stopped out = λ H history.
+      let same : s' ≡ e.last = stopped.0 ∙ sym p.at in (
+        b.outside,
+        e,
+        rest,
+        wrote_none out,
+        subst (λ (x : SessionFields). StopsNext e stop.NoNonce c.outside c.script.left rest x) same (stops_next stop.NoNonce s' cmd comes spelled stopped),
+        history_before s' H stopped.0 history,
+      )
+
+  -- memory ran out over it
+  stopped_short : (s' : SessionFields) (cmd : CommandFields) → Comes old.passed c.script.left rest line → Spells line cmd → IsStopped stop.Memory b.outside c.outside s cmd s' → c.out ≡ b.out → Ends a c s' Memory
+  unfolding EndsBy
+  stopped_short s' cmd comes spelled stopped out = λ H history. (b.outside, e, rest, s', wrote_none out, inr (stops_next stop.Memory s' cmd comes spelled stopped), history)
+
+  -- it spells no command
+  ends_faulty : (s' : SessionFields) → s' ≡ s → Comes old.passed c.script.left rest line → SpellsNone line → c.outside ≡ b.outside → Writes b.out c.out (fault_line number) 1 → Ends a c s' Fault
+  unfolding EndsBy
+  ends_faulty s' still comes none same writes = λ H history.
+      (under a.outside b.outside c.outside e same, rest, complains_whole writes, (line, comes_next comes, none), history_before s' H still history)
+
+  spells_none : (result : Result (Unit {0}) End) → ¬ (result ≡ Err Memory) → SpellsNone line ⊎ (result ≡ Err Memory) → SpellsNone line
+  spells_none result other (inl none) = none
+  spells_none result other (inr short) = absurd (other short)
+
+  pub answer_ends : (s' : SessionFields) (end : End) → Comes old.passed c.script.left rest line → Answers number line b.outside c.outside s s' b.out c.out (Err end) → Ends a c s' end
+  answer_ends s' WriteFault comes (inl (cmd, spelled, (text, does, w))) = text_cut s' cmd text comes spelled does w
+  answer_ends s' NoNonce comes (inl (cmd, spelled, (stopped, out))) = ends_dry s' cmd comes spelled stopped out
+  answer_ends s' Memory comes (inl (cmd, spelled, (stopped, out))) = stopped_short s' cmd comes spelled stopped out
+  answer_ends s' Done comes (inl (cmd, spelled, h)) = absurd h
+  answer_ends s' Fault comes (inl (cmd, spelled, h)) = absurd h
+  answer_ends s' ReadFault comes (inl (cmd, spelled, h)) = absurd h
+  answer_ends s' Over comes (inl (cmd, spelled, h)) = absurd h
+  answer_ends s' WriteFault comes (inr (same, still, none, w)) =
+      complains_cut s' still (inl (line, comes_next comes, spells_none (Err WriteFault) (λ x. cc) none)) same w
+  answer_ends s' Memory comes (inr (same, still, none, out)) = ends_short s' still out same
+  answer_ends s' Fault comes (inr (same, still, none, (is, writes))) = ends_faulty s' still comes (spells_none (Err Fault) (λ x. cc) none) same writes
+  answer_ends s' Done comes (inr (same, still, none, (is, writes))) = absurd (cc)
+  answer_ends s' ReadFault comes (inr (same, still, none, (is, writes))) = absurd (cc)
+  answer_ends s' NoNonce comes (inr (same, still, none, (is, writes))) = absurd (cc)
+  answer_ends s' Over comes (inr (same, still, none, (is, writes))) = absurd (cc)
+
+  -- it was the last one, which lacks its newline
+  pub ends_last : (s' : SessionFields) (done : Unit {0}) → rest ≡ line → IsUnended old.passed c.script.left line → Answers number line b.outside c.outside s s' b.out c.out (Ok done) → Ends a c s' Done
+  unfolding EndsBy does_next
+  ends_last s' done all last (inr (same, still, none, h)) = absurd h
+  ends_last s' done all last (inl (cmd, spelled, (text, does, writes))) = λ H history.
+      let here : IsUnended (offset_of e) c.script.left line = subst (λ (n : ℕ). IsUnended n c.script.left line) p.passed last in (
+        last.at_end,
+        inr (
+          b.outside,
+          e,
+          s',
+          text,
+          does_next (IsUnended (offset_of e) c.script.left) s' cmd text here spelled does,
+          ran_as a c _ _ _ _ _ _ (ap (λ (t : List ℕ). script_of e ++ t) all) refl refl (wrote_more text (puts_of text) writes),
+          history,
+        ),
+      )
+
+  -- its newline was read
+  pub line_played : (s' : SessionFields) (r : Reading) (done : Unit {0}) → IsEnded old.passed rest line r.ahead → r.passed ≡ old.passed + length line + 1
+      → Answers number line b.outside c.outside s s' b.out c.out (Ok done) → Played a c r s' (number + 1)
+  line_played s' r done ended_one passed (inr (same, still, none, h)) = absurd h
+  line_played s' r done ended_one passed (inl (cmd, spelled, (text, does, writes))) =
+      let fits = subst (λ (n : ℕ). n + length line + 1 ≤ script_limit) p.passed ended_one.fits in
+      let does' = subst (λ (x : SessionFields). Does b.outside c.outside x cmd s' text) (sym p.at) does in
+      let bytes : script_of e ++ rest ≡ ended (e.lines ++ line ∷ []) ++ r.ahead = ap (λ (t : List ℕ). script_of e ++ t) ended_one.parts ∙ sym (ended-more e.lines line r.ahead) in
+      record {
+        executed = executed_more a.outside b.outside c.outside e line cmd s' text ended_one.is_line fits spelled does';
+        ran = ran_as a c _ _ _ _ _ _ bytes (sym (concat-more e.texts text)) (sym (count-more e.texts text)) (wrote_more text (puts_of text) writes);
+        at = refl;
+        passed = omega (arith, passed, p.passed, ended-length e.lines line);
+        numbered = omega (arith, p.numbered, length_push e.lines line);
+      }
+
+-- ---- a turn, by what was read
+
+pub turn_line : (a b c : Moment) (old new r : Reading) (s s' : SessionFields) (number : ℕ) (result : Result (Unit {0}) End) → Played a b old s number
+    → ReadsLine b.script.left c.script.left old new (Ok Line) → r.ahead ≡ new.ahead → r.passed ≡ new.passed → Answers number new.line b.outside c.outside s s' b.out c.out result
+    → PlaysOn a c r s' number result
+turn_line a b c old new r s s' number (Ok done) p (consumed, took, (found, passed)) ahead same answers =
+    line_played a b c old new.line consumed s number p took s' r done (subst (λ (more : List ℕ). IsEnded old.passed (old.ahead ++ consumed) new.line more) (sym ahead) found) (same ∙ passed) answers
+turn_line a b c old new r s s' number (Err end) p (consumed, took, (found, passed)) ahead same answers =
+    answer_ends a b c old new.line consumed s number p took s' end (inl (new.ahead, found)) answers
+
+pub turn_last : (a b c : Moment) (old new : Reading) (s s' : SessionFields) (number : ℕ) (done : Unit {0}) → Played a b old s number → ReadsLine b.script.left c.script.left old new (Ok Last)
+    → Answers number new.line b.outside c.outside s s' b.out c.out (Ok done) → Ends a c s' Done
+turn_last a b c old new s s' number done p (consumed, took, (all, last)) answers = ends_last a b c old new.line consumed s number p took s' done all last answers
+
+pub turn_last_stops : (a b c : Moment) (old new : Reading) (s s' : SessionFields) (number : ℕ) (end : End) → Played a b old s number → ReadsLine b.script.left c.script.left old new (Ok Last)
+    → Answers number new.line b.outside c.outside s s' b.out c.out (Err end) → Ends a c s' end
+turn_last_stops a b c old new s s' number end p (consumed, took, (all, last)) answers =
+    answer_ends a b c old new.line consumed s number p took s' end (inr (all, last)) answers
+
+pub turn_end : (a b c : Moment) (old new : Reading) (s : SessionFields) (number : ℕ) → Played a b old s number → ReadsLine b.script.left c.script.left old new (Ok AtEnd) → c.out ≡ b.out → c.outside ≡ b.outside
+    → Ends a c s Done
+turn_end a b c old new s number p (consumed, took, (none, end)) out same = ends_done a b c old [] consumed s number p took none end out same
+
+pub turn_over : (a b c : Moment) (old new : Reading) (s : SessionFields) (number : ℕ) → Played a b old s number → ReadsLine b.script.left c.script.left old new (Ok TooLong) → c.outside ≡ b.outside
+    → Writes b.out c.out (fault_line number) 1 → Ends a c s Over
+turn_over a b c old new s number p (consumed, took, over) same writes = ends_over a b c old [] consumed s number p took over same writes
+
+pub turn_over_stops : (a b c : Moment) (old new : Reading) (s : SessionFields) (number : ℕ) (end : End) → Played a b old s number → ReadsLine b.script.left c.script.left old new (Ok TooLong) → c.outside ≡ b.outside
+    → Prints b.out c.out (fault_line number) (Err end) → Ends a c s end
+turn_over_stops a b c old new s number end p (consumed, took, over) same prints = over_unsaid a b c old [] consumed s number p took end over same prints
+
+pub turn_broken : (a b c : Moment) (old new : Reading) (s : SessionFields) (number : ℕ) → Played a b old s number → ReadsLine b.script.left c.script.left old new (Err read.Failed) → c.out ≡ b.out
+    → c.outside ≡ b.outside → Ends a c s ReadFault
+turn_broken a b c old new s number p (consumed, took, part) out same = ends_broken a b c old [] consumed s number p took part out same
+
+pub turn_short : (a b c : Moment) (old new : Reading) (s : SessionFields) (number : ℕ) → Played a b old s number → ReadsLine b.script.left c.script.left old new (Err read.Memory) → c.out ≡ b.out
+    → c.outside ≡ b.outside → Ends a c s Memory
+turn_short a b c old new s number p (consumed, took, any) out same = ends_short a b c old [] consumed s number p took s refl out same
+
+-- ---- so it goes on to the end
+
+-- the counts are those of a script within its limit
+pub played_bounds : (a b : Moment) (r : Reading) (s : SessionFields) (number : ℕ) → Played a b r s number → (r.passed ≤ script_limit) × (number ≤ script_limit + 1)
+played_bounds a b r s number p = (omega (arith, p.passed, p.executed.fits), omega (arith, p.numbered, p.executed.fits, ended-least p.executed.lines))
 
 -- an end before anything was read
-pub ends_at_once : (a : Moment) → Ends a a Memory
-unfolding Ends
-ends_at_once a = (a.keys, nothing_yet a.keys, [], Ran-nothing a, refl)
+pub ends_at_once : (a : Moment) (s : SessionFields) → s ≡ empty → Ends a a s Memory
+unfolding EndsBy
+ends_at_once a s is = λ H history.
+    let ran : Ran a a [] [] 0 = record { read = Consumes-nil a.script.left; wrote = Appends-nil a.out.held; put = refl } in
+    (a.outside, none_executed a.outside, [], s, ran, inl (refl, is), history)
 
--- ---- The reply of a session
+-- a session in which nothing was done ends with an empty history
+abbrev none_open : List ℕ
+none_open = []
 
-pub IsAsked-polled : (keys keys' : KeysTold) (stage : Stage) (r : ReplyFields) → IsAsked keys keys' stage r → rank stage ≡ 1
-IsAsked-polled keys keys' Empty r h = absurd h
-IsAsked-polled keys keys' (Installed agent terms) r h = absurd h
-IsAsked-polled keys keys' (Polled agent terms nonce) r h = refl
-IsAsked-polled keys keys' Over r h = absurd h
+none_contained : (p : ℕ) → Contains none_open p ↔ (is_open [] p ≡ true)
+none_contained p = (λ has. absurd (omega (arith, has.1)), λ is. absurd (cc))
 
-pub IsMeasured-polled : (relations : Option Relations) (steps steps' : ℕ) (stage : Stage) (r : ReplyFields) → IsMeasured relations steps steps' stage r → rank stage ≡ 1
-IsMeasured-polled relations steps steps' Empty r h = absurd h
-IsMeasured-polled relations steps steps' (Installed agent terms) r h = absurd h
-IsMeasured-polled relations steps steps' (Polled agent terms nonce) r h = refl
-IsMeasured-polled relations steps steps' Over r h = absurd h
+nothing_ended : IsHistory empty []
+nothing_ended = record { ended = ([], record { rising = tt; each = none_contained }, refl); legal = tt }
 
--- a reply that was read before more bytes were, and before more was written
-HasReply-on : (a b c : Moment) (more text : List ℕ) (IsSo : Stage → ReplyFields → Type 0) → HasReply a b IsSo → Ran b c more text → HasReply a c IsSo
-HasReply-on a b c more text IsSo (then, s, line, rest, later, r, ran, whole, spelled, so) ran' =
-    let start = ended s.lines in
-    let reads : (start ++ (line ++ 10 ∷ rest)) ++ more ≡ start ++ (line ++ 10 ∷ (rest ++ more)) =
-    append_assoc start (line ++ 10 ∷ rest) more ∙ ap (λ (t : List ℕ). start ++ t) (append_assoc line (10 ∷ rest) more) in (
-      then,
-      s,
-      line,
-      rest ++ more,
-      later ++ text,
-      r,
-      ran_as a c _ _ _ _ reads (append_assoc (printed s) later text) (Ran-on a b c _ more _ text ran ran'),
-      whole,
-      spelled,
-      so,
-    )
-
--- a reply that is read in a turn after others
-HasReply-at : (a b c : Moment) (ahead : List ℕ) (stage : Stage) (number : ℕ) (text : List ℕ) (IsSo : Stage → ReplyFields → Type 0) → Played a b ahead stage number
-    → ReadsReply b.script.left c.script.left ahead (IsSo stage) → Appends b.out.held c.out.held text → HasReply a c IsSo
-HasReply-at a b c ahead stage number text IsSo p (more, line, rest, took, is, whole, (r, spelled, so)) wrote =
-    let s = p.session in
-    let reads = joined s.lines p.consumed ahead more p.cut ∙ ap (λ (t : List ℕ). ended s.lines ++ t) is in (
-      b.keys,
-      s,
-      line,
-      rest,
-      text,
-      r,
-      ran_as a c _ _ _ _ reads refl (Ran-on a b c p.consumed more (printed s) text p.ran (took, wrote)),
-      whole,
-      spelled,
-      subst (λ (stage : Stage). IsSo stage r) (sym p.at) so,
-    )
-
--- What a reply changes is as it was, or the reply was read: after a turn after others.
-pub replied_after : {X : Type 0} (IsSo : X → X → Stage → ReplyFields → Type 0) (x x' x'' : X) (a b c : Moment) (ahead ahead' : List ℕ) (stage : Stage) (number : ℕ) (result : Result Kept End)
-    → ((r : ReplyFields) → IsSo x' x'' stage r → rank stage ≡ 1) → Played a b ahead stage number → Turns number stage ahead ahead' b c result → (0 < rank stage → x' ≡ x)
-    → (x' ≡ x) ⊎ HasReply a b (IsSo x x') → (x'' ≡ x') ⊎ ReadsReply b.script.left c.script.left ahead (IsSo x' x'' stage) → (x'' ≡ x) ⊎ HasReply a c (IsSo x x'')
-replied_after IsSo x x' x'' a b c ahead ahead' stage number result polled p t untouched so_far turn = elim turn [
-  | inl same ↦ elim so_far [
-    | inl none ↦ inl (same ∙ none)
-    | inr had ↦ inr (subst (λ y. HasReply a c (IsSo x y)) (sym same) (HasReply-on a b c t.consumed t.written (IsSo x x') had t.ran))
-  ]
-  | inr reads ↦ inr (
-      let one = polled reads.6.0 reads.6.2 in
-      subst (λ y. HasReply a c (IsSo y x'')) (untouched (omega (arith, one)))
-      (HasReply-at a b c ahead stage number t.written (IsSo x' x'') p reads t.ran.1)
-      )
-]
-
--- it is as it was while a further command has a place
-pub untouched_after : {X : Type 0} (IsSo : X → X → Stage → ReplyFields → Type 0) (x x' x'' : X) (a b : Moment) (ahead ahead' : List ℕ) (stage : Stage) (number : ℕ) (next : Kept)
-    → ((r : ReplyFields) → IsSo x' x'' stage r → rank stage ≡ 1) → Turns number stage ahead ahead' a b (Ok next) → (0 < rank stage → x' ≡ x)
-    → (x'' ≡ x') ⊎ ReadsReply a.script.left b.script.left ahead (IsSo x' x'' stage) → 0 < rank (stage_of next) → x'' ≡ x
-untouched_after IsSo x x' x'' a b ahead ahead' stage number next polled t untouched turn going =
-    let lower = turn_ranks a b number stage ahead ahead' next t in
-    elim turn [
-      | inl same ↦ same ∙ untouched (omega (arith, going, lower))
-      | inr reads ↦ (let one = polled reads.6.0 reads.6.2 in absurd (omega (arith, going, lower, one)))
-    ]
-
--- ---- The key object and the steps are what a reply changes.
-
-pub asked_after : {K : Type 0} (tell : K → KeysTold) (k k' k'' : K) (a b c : Moment) (ahead ahead' : List ℕ) (stage : Stage) (number : ℕ) (result : Result Kept End) → Played a b ahead stage number
-    → Turns number stage ahead ahead' b c result → (0 < rank stage → k' ≡ k) → (k' ≡ k) ⊎ HasReply a b (IsAsked (tell k) (tell k'))
-    → (k'' ≡ k') ⊎ ReadsReply b.script.left c.script.left ahead (IsAsked (tell k') (tell k'') stage) → (k'' ≡ k) ⊎ HasReply a c (IsAsked (tell k) (tell k''))
-asked_after tell k k' k'' a b c ahead ahead' stage number result p t untouched so_far turn =
-    replied_after (λ x y. IsAsked (tell x) (tell y)) k k' k'' a b c ahead ahead' stage number result (IsAsked-polled (tell k') (tell k'') stage) p t untouched so_far turn
-
-pub unasked_after : {K : Type 0} (tell : K → KeysTold) (k k' k'' : K) (a b : Moment) (ahead ahead' : List ℕ) (stage : Stage) (number : ℕ) (next : Kept) → Turns number stage ahead ahead' a b (Ok next)
-    → (0 < rank stage → k' ≡ k) → (k'' ≡ k') ⊎ ReadsReply a.script.left b.script.left ahead (IsAsked (tell k') (tell k'') stage) → 0 < rank (stage_of next) → k'' ≡ k
-unasked_after tell k k' k'' a b ahead ahead' stage number next t untouched turn =
-    untouched_after (λ x y. IsAsked (tell x) (tell y)) k k' k'' a b ahead ahead' stage number next (IsAsked-polled (tell k') (tell k'') stage) t untouched turn
-
-pub cost_after : (first now : Option Relations) (n n' n'' : ℕ) (a b c : Moment) (ahead ahead' : List ℕ) (stage : Stage) (number : ℕ) (result : Result Kept End) → now ≡ first → Played a b ahead stage number
-    → Turns number stage ahead ahead' b c result → (0 < rank stage → n' ≡ n) → (n' ≡ n) ⊎ HasReply a b (IsMeasured first n n')
-    → (n'' ≡ n') ⊎ ReadsReply b.script.left c.script.left ahead (IsMeasured now n' n'' stage) → (n'' ≡ n) ⊎ HasReply a c (IsMeasured first n n'')
-cost_after first now n n' n'' a b c ahead ahead' stage number result told p t untouched so_far turn =
-    let here = subst (λ (r : Option Relations). (n'' ≡ n') ⊎ ReadsReply b.script.left c.script.left ahead (IsMeasured r n' n'' stage)) told turn in
-    replied_after (IsMeasured first) n n' n'' a b c ahead ahead' stage number result (IsMeasured-polled first n' n'' stage) p t untouched so_far here
-
-pub unspent_after : (now : Option Relations) (n n' n'' : ℕ) (a b : Moment) (ahead ahead' : List ℕ) (stage : Stage) (number : ℕ) (next : Kept) → Turns number stage ahead ahead' a b (Ok next)
-    → (0 < rank stage → n' ≡ n) → (n'' ≡ n') ⊎ ReadsReply a.script.left b.script.left ahead (IsMeasured now n' n'' stage) → 0 < rank (stage_of next) → n'' ≡ n
-unspent_after now n n' n'' a b ahead ahead' stage number next t untouched turn =
-    untouched_after (IsMeasured now) n n' n'' a b ahead ahead' stage number next (IsMeasured-polled now n' n'' stage) t untouched turn
+-- an end without a session
+pub ends_unbegun : (a : Moment) → EndsBy a a [] Memory
+ends_unbegun a = ends_at_once a empty refl [] nothing_ended

@@ -1,60 +1,102 @@
--- How a session ends, by the number with which the run ends.
-use Rattle.std.proofs.Common.{◌≡◌, refl, arith}
-use Rattle.kl_console.specs.Run.{Moment, IsBroken, IsCutOff, IsDone, IsFaulty, IsShort}
-use Rattle.kl_console.specs.Inner.Turns.{Ends, status_of}
-use Rattle.kl_console.specs.declared.turn.End.{End}
-use Rattle.kl_console.specs.declared.turn.End.TheVariants.{Done, Fault, ReadFault, WriteFault, Memory}
+-- How a run ends, by the number with which it ends.
+use Rattle.std.proofs.Common.{◌≡◌, [], refl, subst, ap, arith}
+use Rattle.kl_history.specs.Records.{History}
+use Rattle.kl_console.specs.Calls.{FailsAtLast}
+use Rattle.kl_console.specs.Run.{Moment, EndsAs, IsStatus}
+use Rattle.kl_console.specs.Inner.Turns.{EndsBy, status_of}
+use Rattle.kl_console.specs.declared.ending.End.{End}
+use Rattle.kl_console.specs.declared.ending.End.TheVariants.{Done, Fault, ReadFault, WriteFault, NoNonce, Over, Memory}
+use Rattle.kl_console.proofs.Failing.{fails_as, fails_none}
 
-pub ends_done : (a b : Moment) (end : End) → Ends a b end → status_of end ≡ 0 → IsDone a b
-unfolding Ends
-ends_done a b Done h is = h
-ends_done a b Fault h is = absurd (omega (arith, is))
-ends_done a b ReadFault h is = absurd (omega (arith, is))
-ends_done a b WriteFault h is = absurd (omega (arith, is))
-ends_done a b Memory h is = absurd (omega (arith, is))
+-- no two ends have one number
+pub one_end : (end other : End) → status_of end ≡ status_of other → end ≡ other
+one_end Done Done is = refl
+one_end Done Fault is = absurd (omega (arith, is))
+one_end Done ReadFault is = absurd (omega (arith, is))
+one_end Done WriteFault is = absurd (omega (arith, is))
+one_end Done NoNonce is = absurd (omega (arith, is))
+one_end Done Over is = absurd (omega (arith, is))
+one_end Done Memory is = absurd (omega (arith, is))
+one_end Fault Done is = absurd (omega (arith, is))
+one_end Fault Fault is = refl
+one_end Fault ReadFault is = absurd (omega (arith, is))
+one_end Fault WriteFault is = absurd (omega (arith, is))
+one_end Fault NoNonce is = absurd (omega (arith, is))
+one_end Fault Over is = absurd (omega (arith, is))
+one_end Fault Memory is = absurd (omega (arith, is))
+one_end ReadFault Done is = absurd (omega (arith, is))
+one_end ReadFault Fault is = absurd (omega (arith, is))
+one_end ReadFault ReadFault is = refl
+one_end ReadFault WriteFault is = absurd (omega (arith, is))
+one_end ReadFault NoNonce is = absurd (omega (arith, is))
+one_end ReadFault Over is = absurd (omega (arith, is))
+one_end ReadFault Memory is = absurd (omega (arith, is))
+one_end WriteFault Done is = absurd (omega (arith, is))
+one_end WriteFault Fault is = absurd (omega (arith, is))
+one_end WriteFault ReadFault is = absurd (omega (arith, is))
+one_end WriteFault WriteFault is = refl
+one_end WriteFault NoNonce is = absurd (omega (arith, is))
+one_end WriteFault Over is = absurd (omega (arith, is))
+one_end WriteFault Memory is = absurd (omega (arith, is))
+one_end NoNonce Done is = absurd (omega (arith, is))
+one_end NoNonce Fault is = absurd (omega (arith, is))
+one_end NoNonce ReadFault is = absurd (omega (arith, is))
+one_end NoNonce WriteFault is = absurd (omega (arith, is))
+one_end NoNonce NoNonce is = refl
+one_end NoNonce Over is = absurd (omega (arith, is))
+one_end NoNonce Memory is = absurd (omega (arith, is))
+one_end Over Done is = absurd (omega (arith, is))
+one_end Over Fault is = absurd (omega (arith, is))
+one_end Over ReadFault is = absurd (omega (arith, is))
+one_end Over WriteFault is = absurd (omega (arith, is))
+one_end Over NoNonce is = absurd (omega (arith, is))
+one_end Over Over is = refl
+one_end Over Memory is = absurd (omega (arith, is))
+one_end Memory Done is = absurd (omega (arith, is))
+one_end Memory Fault is = absurd (omega (arith, is))
+one_end Memory ReadFault is = absurd (omega (arith, is))
+one_end Memory WriteFault is = absurd (omega (arith, is))
+one_end Memory NoNonce is = absurd (omega (arith, is))
+one_end Memory Over is = absurd (omega (arith, is))
+one_end Memory Memory is = refl
 
-pub ends_fault : (a b : Moment) (end : End) → Ends a b end → status_of end ≡ 3 → IsFaulty a b
-unfolding Ends
-ends_fault a b Done h is = absurd (omega (arith, is))
-ends_fault a b Fault h is = h
-ends_fault a b ReadFault h is = absurd (omega (arith, is))
-ends_fault a b WriteFault h is = absurd (omega (arith, is))
-ends_fault a b Memory h is = absurd (omega (arith, is))
+-- what is so of a run that ended with its number
+pub ends_as : (a b : Moment) (H : History) (end : End) → EndsBy a b H end → FailsAtLast a.script.calls b.script.calls (end ≡ ReadFault) → FailsAtLast a.out.calls b.out.calls (end ≡ WriteFault)
+    → EndsAs a b (status_of end) H
+unfolding EndsBy
+ends_as a b H end ends read write =
+    let by : (other : End) → status_of end ≡ status_of other → EndsBy a b H other = λ other is. subst (EndsBy a b H) (one_end end other is) ends in
+    record {
+      done = by Done;
+      fault = by Fault;
+      read_fault = by ReadFault;
+      read_cause = fails_as _ _ _ _ (λ is. ap status_of is) (one_end end ReadFault) read;
+      write_fault = by WriteFault;
+      write_cause = fails_as _ _ _ _ (λ is. ap status_of is) (one_end end WriteFault) write;
+      nonce_fault = by NoNonce;
+      over = by Over;
+      memory = by Memory;
+    }
 
-pub ends_broken : (a b : Moment) (end : End) → Ends a b end → status_of end ≡ 4 → IsBroken a b
-unfolding Ends
-ends_broken a b Done h is = absurd (omega (arith, is))
-ends_broken a b Fault h is = absurd (omega (arith, is))
-ends_broken a b ReadFault h is = h
-ends_broken a b WriteFault h is = absurd (omega (arith, is))
-ends_broken a b Memory h is = absurd (omega (arith, is))
+-- a run that did not begin, as its words are others
+pub ends_unused : (a : Moment) → EndsAs a a 2 []
+ends_unused a = record {
+  done = λ is. absurd (omega (arith, is));
+  fault = λ is. absurd (omega (arith, is));
+  read_fault = λ is. absurd (omega (arith, is));
+  read_cause = fails_none _ _ _ refl (λ is. omega (arith, is));
+  write_fault = λ is. absurd (omega (arith, is));
+  write_cause = fails_none _ _ _ refl (λ is. omega (arith, is));
+  nonce_fault = λ is. absurd (omega (arith, is));
+  over = λ is. absurd (omega (arith, is));
+  memory = λ is. absurd (omega (arith, is));
+}
 
-pub ends_cut_off : (a b : Moment) (end : End) → Ends a b end → status_of end ≡ 5 → IsCutOff a b
-unfolding Ends
-ends_cut_off a b Done h is = absurd (omega (arith, is))
-ends_cut_off a b Fault h is = absurd (omega (arith, is))
-ends_cut_off a b ReadFault h is = absurd (omega (arith, is))
-ends_cut_off a b WriteFault h is = h
-ends_cut_off a b Memory h is = absurd (omega (arith, is))
-
-pub ends_short : (a b : Moment) (end : End) → Ends a b end → status_of end ≡ 70 → IsShort a b
-unfolding Ends
-ends_short a b Done h is = absurd (omega (arith, is))
-ends_short a b Fault h is = absurd (omega (arith, is))
-ends_short a b ReadFault h is = absurd (omega (arith, is))
-ends_short a b WriteFault h is = absurd (omega (arith, is))
-ends_short a b Memory h is = h
-
-pub read_fault : (end : End) → status_of end ≡ 4 → end ≡ ReadFault
-read_fault Done is = absurd (omega (arith, is))
-read_fault Fault is = absurd (omega (arith, is))
-read_fault ReadFault is = refl
-read_fault WriteFault is = absurd (omega (arith, is))
-read_fault Memory is = absurd (omega (arith, is))
-
-pub write_fault : (end : End) → status_of end ≡ 5 → end ≡ WriteFault
-write_fault Done is = absurd (omega (arith, is))
-write_fault Fault is = absurd (omega (arith, is))
-write_fault ReadFault is = absurd (omega (arith, is))
-write_fault WriteFault is = refl
-write_fault Memory is = absurd (omega (arith, is))
+pub is_status : (end : End) → IsStatus (status_of end)
+is_status Done = (0, omega arith, refl)
+is_status Fault = (2, omega arith, refl)
+is_status ReadFault = (3, omega arith, refl)
+is_status WriteFault = (4, omega arith, refl)
+is_status NoNonce = (5, omega arith, refl)
+is_status Over = (6, omega arith, refl)
+is_status Memory = (7, omega arith, refl)

@@ -1,11 +1,11 @@
 -- What is counted of several calls of an object.
-use Rattle.std.specs.Prelude.{◌≡◌, ℕ, zero, suc, ◌≤◌, true}
-use Rattle.kl_io.specs.Calls.{Calls, one_more}
+use Rattle.std.specs.Prelude.{◌≡◌, ℕ, zero, ◌≤◌, true}
+use Rattle.kl_io.specs.Calls.{Calls, n_more, one_more}
 
--- a count after so many calls
+-- a count after so many calls more; none leave it as it was
 abbrev pub count_after : ℕ → ℕ → ℕ
 count_after zero count = count
-count_after (suc n) count = one_more (count_after n count)
+count_after n count = n_more n count
 
 -- some calls, or none: the last of them met a fault exactly where `Fault` is so, and no other did
 pub record FailsAtLast (old new : Calls) (Fault : Type 0) : Type 0 where

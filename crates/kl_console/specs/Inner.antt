@@ -1,4 +1,3 @@
-pub mod Faults
 pub mod Reading
-pub mod Stages
+pub mod Printing
 pub mod Turns

@@ -1,7 +1,6 @@
 -- What a run reads and writes, by how it ends.
-use Rattle.std.specs.Prelude.{◌≡◌, ◌⊎◌, ℕ, ◌+◌, true, List, [], ◌∷◌, ◌++◌, Contains, Option}
+use Rattle.std.specs.Prelude.{◌≡◌, ◌⊎◌, ℕ, ◌+◌, true, List, [], ◌∷◌, ◌++◌, Contains, Option, Some, None}
 use Rattle.std.specs.Io.KnownBytes.{Appends, Consumes, IsAtEnd}
-use Rattle.kl_io.specs.Calls.{n_more}
 use Rattle.kl_io.specs.Told.{SinkTold, SourceTold}
 use Rattle.kl_script.specs.Commands.{CommandFields, Spells}
 use Rattle.kl_history.specs.Records.{History}
@@ -12,7 +11,7 @@ use Rattle.kl_session.specs.Outside.{Outside}
 use Rattle.kl_session.specs.Calls.{SessionFields}
 use Rattle.kl_session.specs.Closing.{IsEnded as EndsSession}
 use Rattle.kl_session.specs.Stopped.{IsStopped}
-use Rattle.kl_console.specs.Calls.{FailsAtLast}
+use Rattle.kl_console.specs.Calls.{FailsAtLast, count_after}
 use Rattle.kl_console.specs.Lines.{IsLine, IsUnended, Comes, IsOverLimit}
 use Rattle.kl_console.specs.Script.{Executed, script_of, offset_of, printed, puts_of, puts_before, is_text, next_number, fault_line, HasNoCommand, DoesNext}
 
@@ -30,7 +29,7 @@ moment script out outside = record { script = script; out = out; outside = outsi
 pub record Ran (before after : Moment) (consumed written : List ℕ) (puts : ℕ) : Type 0 where
   pub read : Consumes before.script.left after.script.left consumed
   pub wrote : Appends before.out.held after.out.held written
-  pub put : after.out.calls.made ≡ n_more puts before.out.calls.made
+  pub put : after.out.calls.made ≡ count_after puts before.out.calls.made
 
 -- the history at the end is legal, and it is that of the session, with the polls that were open dropped
 pub record IsHistory (s : SessionFields) (H : History) : Type 0 where
@@ -124,6 +123,11 @@ pub record EndsAs (before after : Moment) (status : ℕ) (H : History) : Type 0 
   pub nonce_fault : status ≡ 6 → IsDry before after H
   pub over : status ≡ 8 → IsOver before after H
   pub memory : status ≡ 70 → IsShort before after H
+
+-- the history of a book, an empty one where there is none
+abbrev pub history_of : Option History → History
+history_of (Some H) = H
+history_of None = []
 
 -- the numbers with which a run ends
 abbrev pub IsStatus : ℕ → Type 0

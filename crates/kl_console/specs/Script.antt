@@ -1,7 +1,7 @@
 -- A script as far as it was executed: its lines, the commands that they spell, and what these printed.
-use Rattle.std.specs.Prelude.{◌≡◌, ◌⊎◌, ℕ, ◌+◌, ◌≤◌, Bool, true, false, List, [], ◌∷◌, ◌++◌, length, All, count_by, if◌then◌else◌, Option, codes, decimal}
+use Rattle.std.specs.Prelude.{ℕ, ◌+◌, ◌≤◌, Bool, true, false, List, [], ◌∷◌, ◌++◌, length, All, count_by, Option, codes, decimal}
 use Rattle.std.specs.List.{concat, AllZip}
-use Rattle.kl_script.specs.Commands.{CommandFields, nothing, Spells}
+use Rattle.kl_script.specs.Commands.{CommandFields, Spells}
 use Rattle.kl_session.specs.Outside.{Outside}
 use Rattle.kl_session.specs.Calls.{SessionFields, empty}
 use Rattle.kl_session.specs.Session.{Does, Follows}
@@ -38,7 +38,8 @@ is_text (byte ∷ bytes) = true
 
 -- how many puts a text takes: an empty one, as that of a comment, takes none
 abbrev pub puts_of : List ℕ → ℕ
-puts_of text = if is_text text then 1 else 0
+puts_of [] = 0
+puts_of (byte ∷ bytes) = 1
 
 -- how many puts there were
 abbrev pub puts_before : {o o' : Outside} → Executed o o' → ℕ

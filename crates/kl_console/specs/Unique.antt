@@ -1,5 +1,5 @@
 -- What a script prints.
-use Rattle.std.specs.Prelude.{◌≡◌, ◌⊎◌, ℕ, Bool, true, false, List, ◌++◌, All, Option, Some}
+use Rattle.std.specs.Prelude.{◌≡◌, ◌⊎◌, ℕ, Bool, true, false, List, ◌++◌, All, Some}
 use Rattle.kl_io.specs.Calls.{Rose}
 use Rattle.kl_keys.specs.Relations.{Relations}
 use Rattle.kl_states.specs.declared.outcome.DropWhy.TheVariants as why

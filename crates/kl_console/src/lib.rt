@@ -1,17 +1,11 @@
 //! The program's top call.
 #![tactic(auto)]
 
-mod adding;
-mod concluding;
+mod answering;
+mod ending;
 mod line_reader;
+mod printing;
 mod program;
-mod session;
-mod texts;
-mod turn;
-mod unique;
+mod turns;
 
-pub use program::{is_only_word, run, run_counted};
-pub use unique::one_output;
-
-#[cfg(test)]
-mod tests;
+pub use program::{is_only_word, run, run_counted, run_kept};

@@ -1,10 +1,11 @@
 //! Lines from a source, one at a time.
 
-ghost use Rattle.std.specs.Prelude.{◌≡◌, ◌++◌, [], List, ℕ, Err, ◌<◌, ◌≤◌, true, false, length, IfOk, OnErr, IfSome, IfNone};
+ghost use Rattle.std.specs.Prelude.{◌≡◌, ◌++◌, ◌+◌, [], List, ℕ, Err, ◌<◌, ◌≤◌, true, false, length, IfOk, OnErr, IfSome, IfNone};
 ghost use Rattle.std.specs.Io.KnownBytes.{Consumes, IsAtEnd};
 ghost use Rattle.kl_entry.specs.Lines.{HasNo};
 ghost use Rattle.kl_console.specs.Calls.{FailsAtLast};
-ghost use Rattle.kl_console.specs.Inner.Reading.{IsNewlineAt, ReadsLine, held_bytes};
+ghost use Rattle.kl_console.specs.Lines.{script_limit};
+ghost use Rattle.kl_console.specs.Inner.Reading.{IsNewlineAt, Fits, IsOver, ReadsLine, held_bytes};
 
 use kl_io::Source;
 use memchr::memchr;
@@ -12,19 +13,24 @@ use std::alloc::{AllocError, Global};
 use std::marker::Model;
 
 /// The most bytes that a line may have, its newline not counted.
-pub const LINE_LIMIT: usize = 16_777_216;
+const LINE_LIMIT: usize = 16_777_216;
 
-/// How many bytes one turn asks the source for.
+/// The most bytes that a script may have, all newlines counted.
+const SCRIPT_LIMIT: u64 = 1_099_511_627_776;
+
+/// How many bytes one turn asks the source for. A line that took more memory lets it go.
 const TURN: usize = 65_536;
 
 /// What was found of the next line.
 #[derive(Clone, Copy, Debug, PartialEq, Eq)]
 pub enum Found {
-    /// A whole line, which was ended by its newline.
+    /// A line that was ended by its newline.
     Line,
-    /// The end of the input, after bytes without a newline, which may be none.
+    /// The last line, which lacks its newline.
+    Last,
+    /// The end of the script, behind a newline or with no line at all.
     End,
-    /// More bytes without a newline than a line may have.
+    /// More bytes than a line may have, or than the script may have.
     TooLong,
 }
 
@@ -56,24 +62,27 @@ fn newline_at(bytes: &[u8]) -> Option<usize>
     memchr(b'\n', bytes)
 }
 
-/// Reads lines from a source, in turns of bounded size. The line that was read last stays until the next is read.
+/// Reads the lines of a script, in turns of bounded size. The line that was read last stays until the next is read.
 #[derive(Drop)]
 pub struct LineReader {
     line: Vec<u8>,
     chunk: Vec<u8>,
     start: usize,
     end: usize,
+    /// How many bytes the lines take that were read to their newline.
+    passed: u64,
 }
 
 impl Model for LineReader {
     ghost use Rattle.std.specs.Prelude.{◌≡◌, ◌≤◌, ◌-◌, take, drop, length, vec_len};
+    ghost use Rattle.kl_console.specs.Lines.{script_limit};
     ghost use Rattle.kl_console.specs.Inner.Reading.{Reading};
 
     ghost Value = { Reading };
 
-    ghost view = { λ r. record { line = r.line.items; ahead = take (r.end - r.start) (drop r.start r.chunk.items) } };
+    ghost view = { λ r. record { line = r.line.items; ahead = take (r.end - r.start) (drop r.start r.chunk.items); passed = r.passed } };
 
-    ghost invariant = { λ r. (r.start ≤ r.end) × (r.end ≤ vec_len r.chunk) × (vec_len r.chunk ≡ 65536) };
+    ghost invariant = { λ r. (r.start ≤ r.end) × (r.end ≤ vec_len r.chunk) × (vec_len r.chunk ≡ 65536) × (r.passed ≤ script_limit) };
 }
 
 impl LineReader {
@@ -84,12 +93,14 @@ impl LineReader {
     pub fn new(alloc: Global) -> Result<LineReader, AllocError>
         ensures line { IfOk result (λ r. r.line ≡ []) }
         ensures ahead { IfOk result (λ r. r.ahead ≡ []) }
+        ensures passed { IfOk result (λ r. r.passed ≡ 0) }
     {
         Ok(LineReader {
             line: Vec::new(alloc),
             chunk: vec![in alloc; 0; TURN]?,
             start: 0,
             end: 0,
+            passed: 0,
         })
     }
 
@@ -100,11 +111,15 @@ impl LineReader {
         self.line.as_slice()
     }
 
-    /// Lets the line go, and the memory that it took.
+    /// Lets the line go, and the memory that it took where that is much.
     pub fn let_go(&mut self, alloc: Global)
-        ensures { self.new ≡ record { line = []; ahead = self.old.ahead } }
+        ensures { self.new ≡ record { line = []; ahead = self.old.ahead; passed = self.old.passed } }
     {
-        self.line = Vec::new(alloc);
+        // A buffer of few bytes is kept, so that a small line costs no allocation.
+        self.line.clear();
+        if self.line.capacity() > TURN {
+            self.line = Vec::new(alloc);
+        }
     }
 
     /// Reads the next line. It stays until the next one is read.
@@ -127,6 +142,7 @@ impl LineReader {
     fn prime<S: Source>(&mut self, source: &mut S) -> Result<bool, ReadError>
         ensures bytes { (consumed : List ℕ) × Consumes (S.told source.old).left (S.told source.new).left consumed × (self.new.ahead ≡ self.old.ahead ++ consumed) }
         ensures line { self.new.line ≡ self.old.line }
+        ensures passed { self.new.passed ≡ self.old.passed }
         ensures some { IfOk result (λ some. some ≡ true → 0 < length self.new.ahead) }
         ensures end { IfOk result (λ some. some ≡ false → (self.new.ahead ≡ []) × IsAtEnd (S.told source.new).left) }
         ensures err { OnErr result (self.new.ahead ≡ []) }
@@ -149,16 +165,35 @@ impl LineReader {
     {
         'turns: loop {
             let whole = self.take_piece()?;
-            if self.line.len() > LINE_LIMIT {
+            if self.is_over(whole) {
                 return Ok(Found::TooLong);
             }
             if whole {
+                self.pass();
                 return Ok(Found::Line);
             }
             if !self.fill(source)? {
-                return Ok(Found::End);
+                return Ok(Found::Last);
             }
         }
+    }
+
+    /// Whether the line passes its limit, or the script does in it.
+    fn is_over(&self, whole: bool) -> bool
+        ensures over { result ≡ true → IsOver whole self.now }
+        ensures fits { result ≡ false → Fits whole self.now }
+    {
+        let newline = if whole { 1 } else { 0 };
+        self.line.len() > LINE_LIMIT
+            || self.passed + self.line.len() as u64 + newline > SCRIPT_LIMIT
+    }
+
+    /// Counts the line, which was read to its newline.
+    fn pass(&mut self)
+        requires { self.old.passed + length self.old.line + 1 ≤ script_limit }
+        ensures { self.new ≡ record { line = self.old.line; ahead = self.old.ahead; passed = self.old.passed + length self.old.line + 1 } }
+    {
+        self.passed += self.line.len() as u64 + 1;
     }
 
     /// Appends what the chunk has of the line, up to its newline. The answer is whether the newline was met.
@@ -167,6 +202,7 @@ impl LineReader {
         ensures no_newline { HasNo 10 self.old.line → HasNo 10 self.new.line }
         ensures rest { IfOk result (λ whole. whole ≡ false → self.new.ahead ≡ []) }
         ensures err { OnErr result (self.new ≡ self.old) }
+        ensures passed { self.new.passed ≡ self.old.passed }
     {
         let ahead = &self.chunk[self.start..self.end];
         match newline_at(ahead) {
@@ -188,6 +224,7 @@ impl LineReader {
         requires { self.old.ahead ≡ [] }
         ensures bytes { Consumes (S.told source.old).left (S.told source.new).left self.new.ahead }
         ensures line { self.new.line ≡ self.old.line }
+        ensures passed { self.new.passed ≡ self.old.passed }
         ensures some { IfOk result (λ some. some ≡ true → 0 < length self.new.ahead) }
         ensures end { IfOk result (λ some. some ≡ false → (self.new.ahead ≡ []) × IsAtEnd (S.told source.new).left) }
         ensures err { OnErr result (self.new.ahead ≡ []) }

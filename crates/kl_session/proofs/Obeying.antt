@@ -12,7 +12,7 @@ use Rattle.kl_session.specs.Calls.{SessionFields}
 use Rattle.kl_session.specs.Replies.{DoesReply}
 use Rattle.kl_session.specs.Session.{Does}
 use Rattle.kl_session.specs.Stopped.{IsStopped}
-use Rattle.kl_session.specs.Inner.Stopping.{IsShort, IsUnbegun}
+use Rattle.kl_session.specs.Inner.Stopping.{IsShort, IsUndone, IsUnbegun}
 
 -- a command that asks nothing of the outside
 pub alone : {X : Type 0} (r : Result X Stop) (o : Outside) (s s' : SessionFields) (c : CommandFields) (Done : List ℕ → Type 0)
@@ -29,17 +29,12 @@ unfolding Does
 unbegun NoNonce o o' s s' b (same, unnamed, none) = (same, (unnamed, none))
 unbegun Memory o o' s s' b short = short
 
--- a reply, which asked nothing of the outside where it did nothing
-pub unanswered : {X K : Type 0} (r : Result X Stop) (told : K → KeysTold) (k k' : K) (words : WordsTold) (n n' : ℕ) (s s' : SessionFields) (said : ReplyFields)
-    → IfErr r (λ stop. (w : WordsTold) → IsShort stop s s' (DoesReply (outside (told k) w n) (outside (told k') w n') said s s'))
-    → IfErr r (λ stop. (s' ≡ s) → (k' ≡ k) × (n' ≡ n))
-    → IfErr r (λ why. IsStopped why (outside (told k) words n) (outside (told k') words n') s (reply said) s')
+-- a reply
+pub unanswered : {X : Type 0} (r : Result X Stop) (o o' : Outside) (s s' : SessionFields) (said : ReplyFields)
+    → IfErr r (λ stop. IsUndone stop o o' s s' (DoesReply o o' said s s')) → IfErr r (λ why. IsStopped why o o' s (reply said) s')
 unfolding Does
-unanswered (Ok x) told k k' words n n' s s' said short unasked = short
-unanswered {K = K} (Err why) told k k' words n n' s s' said short unasked =
-    let o = outside (told k) words n in
-    let o' = outside (told k') words n' in
-    subst (λ (stop : Stop). IsStopped stop o o' s (reply said) s') (sym (short words).0) (elim (short words).1 [
-      | inl did ↦ inl did
-      | inr same ↦ inr (same, inl (ap (λ (key : K). outside (told key) words n') (unasked same).0 ∙ ap (λ m. outside (told k) words m) (unasked same).1))
-    ])
+unanswered (Ok x) o o' s s' said short = short
+unanswered (Err why) o o' s s' said short = subst (λ (stop : Stop). IsStopped stop o o' s (reply said) s') (sym short.0) (elim short.1 [
+  | inl did ↦ inl did
+  | inr same ↦ inr (same.0, inl same.1)
+])

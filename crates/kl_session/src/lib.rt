@@ -19,3 +19,6 @@ mod tickets;
 pub use naming::NoTerms;
 pub use session::Session;
 pub use stop::Stop;
+
+#[cfg(test)]
+mod tests;

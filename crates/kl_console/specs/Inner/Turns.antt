@@ -1,81 +1,73 @@
--- One turn of a session: a line is read, what it says is done, and the text of that is printed.
-use Rattle.std.specs.Prelude.{◌≡◌, ℕ, List, [], ◌∷◌, ◌++◌, Option, Result, Ok, Err}
-use Rattle.std.specs.Io.KnownBytes.{Appends, Consumes, IsAtEnd}
-use Rattle.kl_io.specs.Told.{AppendsFront}
-use Rattle.kl_keys.specs.Told.{KeysTold}
-use Rattle.kl_script.specs.Commands.{CommandFields, ReplyFields, reply, Spells}
-use Rattle.kl_console.specs.Lines.{IsLine}
-use Rattle.kl_console.specs.Texts.{fault_text}
-use Rattle.kl_console.specs.Session.{Stage, Does}
-use Rattle.kl_console.specs.Script.{IsBad}
-use Rattle.kl_console.specs.Run.{Moment, Ran, Puts, CanPrint, IsDone, IsFaulty, IsBroken, IsCutOff, IsShort}
-use Rattle.kl_console.specs.Inner.Stages.{stage_of}
-use Rattle.kl_console.specs.declared.session.Stage.{Stage as Kept}
-use Rattle.kl_console.specs.declared.turn.End.{End}
-use Rattle.kl_console.specs.declared.turn.End.TheVariants.{Done, Fault, ReadFault, WriteFault, Memory}
+-- One turn of a run: a line is read, what it says is done, and the text of that is printed.
+use Rattle.std.specs.Prelude.{◌≡◌, ◌⊎◌, ℕ, ◌+◌, List, ◌++◌, Result, Ok, Err}
+use Rattle.kl_io.specs.Told.{SinkTold}
+use Rattle.kl_script.specs.Commands.{CommandFields, Spells}
+use Rattle.kl_history.specs.Records.{History}
+use Rattle.kl_session.specs.declared.stop.Stop.{Stop}
+use Rattle.kl_session.specs.declared.stop.Stop.TheVariants as stop
+use Rattle.kl_session.specs.Outside.{Outside}
+use Rattle.kl_session.specs.Calls.{SessionFields}
+use Rattle.kl_session.specs.Session.{Does}
+use Rattle.kl_session.specs.Stopped.{IsStopped}
+use Rattle.kl_console.specs.Script.{Executed, script_of, offset_of, printed, puts_of, puts_before, next_number, fault_line, SpellsNone}
+use Rattle.kl_console.specs.Run.{Moment, Ran, IsHistory, IsDone, IsFaulty, IsBroken, IsCutOff, IsDry, IsOver, IsShort}
+use Rattle.kl_console.specs.Inner.Reading.{Reading}
+use Rattle.kl_console.specs.Inner.Printing.{Writes, WritesFront}
+use Rattle.kl_console.specs.declared.ending.End.{End}
+use Rattle.kl_console.specs.declared.ending.End.TheVariants.{Done, Fault, ReadFault, WriteFault, NoNonce, Over, Memory}
 
--- what a turn found in the bytes, left of them, and wrote
-abbrev pub TurnIs : KeysTold → KeysTold → ℕ → Option (List ℕ) → Stage → List ℕ → List ℕ → List ℕ → Result Kept End → Type 0
-TurnIs keys keys' number left stage bytes ahead written (Ok next) =
-    (line : List ℕ) × (bytes ≡ line ++ 10 ∷ ahead) × IsLine line × Does keys keys' stage line (stage_of next) written
-TurnIs keys keys' number left stage bytes ahead written (Err Done) = (bytes ≡ []) × IsAtEnd left × (written ≡ []) × (keys' ≡ keys)
-TurnIs keys keys' number left stage bytes ahead written (Err Fault) = IsBad left stage bytes × (written ≡ fault_text number) × (keys' ≡ keys)
-TurnIs keys keys' number left stage bytes ahead written (Err ReadFault) = IsLine bytes × (written ≡ []) × (keys' ≡ keys)
-TurnIs keys keys' number left stage bytes ahead written (Err WriteFault) =
-    (text : List ℕ) × (lost : List ℕ) × CanPrint keys keys' number left stage bytes text × (text ≡ written ++ lost)
-TurnIs keys keys' number left stage bytes ahead written (Err Memory) = written ≡ []
+-- how a command went, and what was written of its text
+abbrev pub Performs : Outside → Outside → SessionFields → SessionFields → CommandFields → SinkTold → SinkTold → Result (Unit {0}) End → Type 0
+Performs o o' s s' c out out' (Ok done) = (text : List ℕ) × Does o o' s c s' text × Writes out out' text (puts_of text)
+Performs o o' s s' c out out' (Err WriteFault) = (text : List ℕ) × Does o o' s c s' text × WritesFront out out' text
+Performs o o' s s' c out out' (Err NoNonce) = IsStopped stop.NoNonce o o' s c s' × (out' ≡ out)
+Performs o o' s s' c out out' (Err Memory) = IsStopped stop.Memory o o' s c s' × (out' ≡ out)
+Performs o o' s s' c out out' (Err _) = ⊥
 
--- how many puts there are in a turn
-abbrev pub puts_of : Result Kept End → ℕ
-puts_of (Ok next) = 1
-puts_of (Err Done) = 0
-puts_of (Err Fault) = 1
-puts_of (Err ReadFault) = 0
-puts_of (Err WriteFault) = 1
-puts_of (Err Memory) = 0
+-- what was written of the word that the line of this number is bad, which ends a run so
+abbrev pub Complains : ℕ → End → SinkTold → SinkTold → Result (Unit {0}) End → Type 0
+Complains number bad out out' (Ok done) = ⊥
+Complains number bad out out' (Err WriteFault) = WritesFront out out' (fault_line number)
+Complains number bad out out' (Err Memory) = out' ≡ out
+Complains number bad out out' (Err end) = (end ≡ bad) × Writes out out' (fault_line number) 1
 
--- a turn, by what its objects tell before it and after it
-pub record Turns (number : ℕ) (stage : Stage) (ahead ahead' : List ℕ) (before after : Moment) (result : Result Kept End) : Type 0 where
-  pub consumed : List ℕ
-  pub written : List ℕ
-  pub ran : Ran before after consumed written
-  pub does : TurnIs before.keys after.keys number after.script.left stage (ahead ++ consumed) ahead' written result
-  pub puts : Puts before after (puts_of result)
+-- how a line went, whose number this is
+abbrev pub Answers : ℕ → List ℕ → Outside → Outside → SessionFields → SessionFields → SinkTold → SinkTold → Result (Unit {0}) End → Type 0
+Answers number line o o' s s' out out' result =
+    ((c : CommandFields) × Spells line c × Performs o o' s s' c out out' result)
+    ⊎ ((o' ≡ o) × (s' ≡ s) × (SpellsNone line ⊎ (result ≡ Err Memory)) × Complains number Fault out out' result)
 
--- a turn over a line that was read whole
-abbrev pub Answered : KeysTold → KeysTold → ℕ → Option (List ℕ) → Stage → List ℕ → List ℕ → Option (List ℕ) → Option (List ℕ) → Result Kept End → Type 0
-Answered keys keys' number left stage bytes ahead held held' result =
-    (written : List ℕ) × Appends held held' written × TurnIs keys keys' number left stage bytes ahead written result
+-- what a run has come to after some lines
+pub record Played (before now : Moment) (r : Reading) (s : SessionFields) (number : ℕ) : Type 0 where
+  pub executed : Executed before.outside now.outside
+  pub ran : Ran before now (script_of executed ++ r.ahead) (printed executed) (puts_before executed)
+  pub at : executed.last ≡ s
+  pub passed : r.passed ≡ offset_of executed
+  pub numbered : number ≡ next_number executed
 
--- what was written of the word that a line is bad, by how that went
-abbrev pub Complains : Option (List ℕ) → Option (List ℕ) → ℕ → End → Type 0
-Complains held held' number Fault = Appends held held' (fault_text number)
-Complains held held' number WriteFault = AppendsFront held held' (fault_text number)
-Complains held held' number Memory = held' ≡ held
-Complains held held' number _ = ⊥
+-- what was read and written in all, by how a run ended, with this history
+unfoldable pub EndsBy : Moment → Moment → History → End → Type 0
+EndsBy before after H Done = IsDone before after H
+EndsBy before after H Fault = IsFaulty before after H
+EndsBy before after H ReadFault = IsBroken before after H
+EndsBy before after H WriteFault = IsCutOff before after H
+EndsBy before after H NoNonce = IsDry before after H
+EndsBy before after H Over = IsOver before after H
+EndsBy before after H Memory = IsShort before after H
 
--- the command is a reply, of which this is so
-abbrev pub IsReply : CommandFields → (ReplyFields → Type 0) → Type 0
-IsReply (reply r) IsSo = IsSo r
-IsReply _ IsSo = ⊥
+-- the same, once the session is ended
+abbrev pub Ends : Moment → Moment → SessionFields → End → Type 0
+Ends before after s end = (H : History) → IsHistory s H → EndsBy before after H end
 
--- the line is a reply's, of which this is so
-abbrev pub IsReplyLine : List ℕ → (ReplyFields → Type 0) → Type 0
-IsReplyLine line IsSo = (r : ReplyFields) × Spells line (reply r) × IsSo r
+-- what a run has come to, and a turn more
+abbrev pub PlaysOn : Moment → Moment → Reading → SessionFields → ℕ → Result (Unit {0}) End → Type 0
+PlaysOn before now r s number (Ok done) = Played before now r s (number + 1)
+PlaysOn before now r s number (Err end) = Ends before now s end
 
--- the line that was read in a turn is
-abbrev pub ReadsReply : Option (List ℕ) → Option (List ℕ) → List ℕ → (ReplyFields → Type 0) → Type 0
-ReadsReply left left' ahead IsSo =
-    (consumed : List ℕ) × (line : List ℕ) × (more : List ℕ) × Consumes left left' consumed × (ahead ++ consumed ≡ line ++ 10 ∷ more) × IsLine line
-    × IsReplyLine line IsSo
-
--- what was read and written in all, by how the session ended
-unfoldable pub Ends : Moment → Moment → End → Type 0
-Ends before after Done = IsDone before after
-Ends before after Fault = IsFaulty before after
-Ends before after ReadFault = IsBroken before after
-Ends before after WriteFault = IsCutOff before after
-Ends before after Memory = IsShort before after
+-- how a run ends where a session goes on no further
+abbrev pub end_of : Stop → End
+end_of stop.NoNonce = NoNonce
+end_of stop.Memory = Memory
 
 -- the number with which a run ends
 abbrev pub status_of : End → ℕ
@@ -83,4 +75,6 @@ status_of Done = 0
 status_of Fault = 3
 status_of ReadFault = 4
 status_of WriteFault = 5
+status_of NoNonce = 6
+status_of Over = 8
 status_of Memory = 70

@@ -1,31 +1,30 @@
-use Rattle.std.proofs.Common.{◌≡◌, false, length, Err, ap, arith, rules}
-use Rattle.kl_console.specs.Lines.{IsLine}
-use Rattle.kl_console.proofs.Gathering.{gathers_on, reads_long, reads_stopped}
+use Rattle.std.proofs.Common.{false}
+use Rattle.kl_console.proofs.Gathering.{Asked, Moved, gathers_on, reads_last, reads_over}
+use Rattle.kl_console.specs.Inner.Reading.{Fits}
 use Rattle.kl_console.proofs.line_reader.LineReader.gather.Goals as goal
 
-pub returns-then-len-gt-LINE_LIMIT-clause-reads : goal.returns-then-len-gt-LINE_LIMIT-clause-reads
-returns-then-len-gt-LINE_LIMIT-clause-reads g c =
+pub returns-then-is_over-clause-reads : goal.returns-then-is_over-clause-reads
+returns-then-is_over-clause-reads g c =
     let piece = c.in_ok-whole.ensures in
-    let same : length c.self.inside.line.items ≡ length c.take_piece.new.self.line = ap (λ r. length r.line) c.self.view_is in
-    reads_long _ _ _ _ _ c.in_ok-whole.whole c.turns.invariant piece.bytes
-    (record { whole = piece.no_newline c.turns.invariant.line.whole; long = omega (arith, same, c.len.ensures, c.if-len-gt-LINE_LIMIT.true) })
+    reads_over _ _ _ _ c.take_piece.new.self c.in_ok-whole.whole c.turns.invariant piece.bytes piece.passed piece.no_newline (c.is_over.ensures.over c.if-is_over.true)
 
-pub returns-in_err-fill-clause-reads : goal.returns-in_err-fill-clause-reads
-returns-in_err-fill-clause-reads g c =
-    let whole : c.in_ok-whole.whole ≡ false = c.if-whole.false in
+pub returns-then-not-branch-clause-reads : goal.returns-then-not-branch-clause-reads
+returns-then-not-branch-clause-reads g c =
     let piece = c.in_ok-whole.ensures in
-    let same : length c.self.inside.line.items ≡ length c.take_piece.new.self.line = ap (λ r. length r.line) c.self.view_is in
-    let line : IsLine c.take_piece.new.self.line = record { whole = piece.no_newline c.turns.invariant.line.whole; short = omega (arith, same, c.len.ensures, c.if-len-gt-LINE_LIMIT.false) } in
+    let whole = c.if-whole.false in
     let bytes = rw whole at piece.bytes in
-    let is : c.from_residual-in_err-fill.result ≡ Err c.in_err-fill.field-0.0 = search rules in
-    reads_stopped _ _ (g.S.Source.told c.fill.new.source) _ _ c.take_piece.new.self _ _ _ is c.turns.invariant bytes (piece.rest whole) line c.fill.ensures.bytes c.fill.ensures.line c.in_err-fill.ensures.err
+    let fits : Fits false c.take_piece.new.self = rw whole at (c.is_over.ensures.fits c.if-is_over.false) in
+    let moved : Moved c.turns.self c.take_piece.new.self = record { all = bytes; none = piece.rest whole; kept = piece.passed; whole = piece.no_newline; fits = fits } in
+    let asked : Asked _ (g.S.Source.told c.fill.new.source) c.take_piece.new.self c.fill.new.self = record { given = c.fill.ensures.bytes; line = c.fill.ensures.line; passed = c.fill.ensures.passed } in
+    let end = c.in_ok-fill.ensures.end c.if-not-branch.true in
+    reads_last _ _ _ _ _ _ _ c.turns.invariant moved asked end.0 end.1
 
 pub turns-preserved : goal.turns-preserved
 turns-preserved g c =
-    let whole : c.in_ok-whole.whole ≡ false = c.if-whole.false in
     let piece = c.in_ok-whole.ensures in
-    let same : length c.self.inside.line.items ≡ length c.take_piece.new.self.line = ap (λ r. length r.line) c.self.view_is in
-    let line : IsLine c.take_piece.new.self.line = record { whole = piece.no_newline c.turns.invariant.line.whole; short = omega (arith, same, c.len.ensures, c.if-len-gt-LINE_LIMIT.false) } in
+    let whole = c.if-whole.false in
     let bytes = rw whole at piece.bytes in
-    gathers_on _ _ _ _ _ c.take_piece.new.self _ c.turns.invariant bytes (piece.rest whole) line c.fill.ensures.bytes c.fill.ensures.line
-    (c.in_ok-fill.ensures.some c.if-not-branch.false) (c.in_ok-fill.ensures.failed.unmet (λ fault. cc)) c.fill.ensures.place
+    let fits : Fits false c.take_piece.new.self = rw whole at (c.is_over.ensures.fits c.if-is_over.false) in
+    let moved : Moved c.turns.self c.take_piece.new.self = record { all = bytes; none = piece.rest whole; kept = piece.passed; whole = piece.no_newline; fits = fits } in
+    let asked : Asked _ (g.S.Source.told c.fill.new.source) c.take_piece.new.self c.fill.new.self = record { given = c.fill.ensures.bytes; line = c.fill.ensures.line; passed = c.fill.ensures.passed } in
+    gathers_on _ _ _ _ _ _ _ c.turns.invariant moved asked (c.in_ok-fill.ensures.some c.if-not-branch.false) (c.in_ok-fill.ensures.failed.unmet (λ fault. cc)) c.fill.ensures.place

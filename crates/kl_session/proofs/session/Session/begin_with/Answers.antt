@@ -19,5 +19,5 @@ returns-in-Ok-clause-short c =
     let begun = c.in-Ok.ensures in
     let line = polled_line c.in-Ok.ticket in
     let did = done_of (BeginAnswers c.args.agent c.args.nonce b.moment) (begin_makes b.moment) says_polled b.book c.begin-answer.new.self b.moment (Ok c.in-Ok.ticket) line
-        begun.answer begun.history refl in
+    begun.answer begun.history refl in
     rw (← c.self.view_is) (IfErr-weaker c.say_polled-line.result _ _ (λ stop e. (e, inl (line, did))) c.say_polled-line.ensures.short)

@@ -114,9 +114,10 @@ returns-in-Reply-clause-done g c = rw c.in-Reply.is (IfOk-weaker c.reply.result 
 
 pub returns-in-Reply-clause-stopped : goal.returns-in-Reply-clause-stopped
 returns-in-Reply-clause-stopped g c =
+    let words = g.N.Words.told c.args.nonces.now in
     rw c.in-Reply.is
-    (unanswered c.reply.result g.Y.Keys.told c.args.keys.now c.reply.new.keys (g.N.Words.told c.args.nonces.now) c.args.steps.now c.reply.new.steps c.args.self.now c.reply.new.self (reply_fields c.in-Reply.reply)
-    c.reply.ensures.short c.reply.ensures.unasked)
+    (unanswered c.reply.result (outside (g.Y.Keys.told c.args.keys.now) words c.args.steps.now) (outside (g.Y.Keys.told c.reply.new.keys) words c.reply.new.steps)
+    c.args.self.now c.reply.new.self (reply_fields c.in-Reply.reply) (IfErr-weaker c.reply.result _ _ (λ why short. short words) c.reply.ensures.short))
 
 pub returns-in-State-clause-done : goal.returns-in-State-clause-done
 unfolding Does

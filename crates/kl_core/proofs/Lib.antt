@@ -8,3 +8,4 @@ pub mod Findings
 pub mod Ending
 pub mod Telling
 pub mod Givens
+pub mod OneAnswer

@@ -6,5 +6,6 @@ pub mod Begins
 pub mod Closes
 pub mod States
 pub mod Whole
+pub mod Answers
 pub mod Texts
 pub mod Inner

@@ -4,6 +4,7 @@
 #![tactic(auto)]
 
 mod agents;
+mod answers;
 mod book;
 mod book_desk;
 mod closed;
@@ -15,6 +16,7 @@ mod refusal;
 #[cfg(test)]
 mod tests;
 
+pub use answers::single_answers;
 pub use book::Book;
 pub use closed::{Closed, ClosedAs};
 pub use desk::Desk;

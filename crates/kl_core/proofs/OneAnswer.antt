@@ -1,0 +1,279 @@
+-- A call has one answer, unless memory runs out: of the reasons to refuse it the first that applies is one.
+use Rattle.std.proofs.Common.{◌≡◌, ◌≢◌, ◌⊎◌, ℕ, Bool, List, ◌∷◌, length, Option, Some, None, is_some, Ok, Err, inl, inr, refl, ap, sym, ◌∙◌, subst, arith}
+use Rattle.std.proofs.lemmas.Bool.{false≢true}
+use Rattle.std.proofs.lemmas.Option.{same_Some, none-some}
+use Rattle.kl_policy.specs.PolicyFields.{PolicyFields}
+use Rattle.kl_appraise.specs.Terms.{TermsFields}
+use Rattle.kl_incr.specs.Kept.{TicketFields}
+use Rattle.kl_incr.specs.Appraisal.{AppraisedFields}
+use Rattle.kl_states.specs.declared.op.Op.{Op}
+use Rattle.kl_states.specs.declared.op.State.{State}
+use Rattle.kl_states.specs.declared.outcome.DropWhy.{DropWhy}
+use Rattle.kl_appraise.specs.declared.kept.Kept.{Kept}
+use Rattle.kl_entry.specs.Entries.{EntryFields}
+use Rattle.kl_history.specs.declared.record.Record.{Record}
+use Rattle.kl_history.specs.declared.record.Record.TheVariants.{Dropped as DroppedRecord}
+use Rattle.kl_history.specs.Records.{History, Past, past_of, own}
+use Rattle.kl_history.specs.LookBacks.{Installed, installed}
+use Rattle.kl_history.specs.Legal.{Legal, IsBusy}
+use Rattle.kl_history.proofs.Drawn.{ends_once}
+use Rattle.kl_history.proofs.OneStanding.{are_one}
+use Rattle.kl_core.specs.declared.refusal.Refusal.{Refusal}
+use Rattle.kl_core.specs.declared.refusal.Refusal.TheVariants.{NoAgent, Exists, AgentsFull, WrongState, Busy, JournalRecords, JournalBytes, Memory}
+use Rattle.kl_core.specs.Installs.{RefusesAdd, Adds, RefusesReplace, Replaces, RefusesReactivate, Reactivates}
+use Rattle.kl_core.specs.Endings.{RefusesStop, Stops, RefusesRemove, Removes}
+use Rattle.kl_core.specs.Begins.{MayPoll, IsPolled, RefusesBegin, Begins, BeginAnswers}
+use Rattle.kl_core.specs.declared.closed.Closed.{Closed}
+use Rattle.kl_core.specs.declared.closed.ClosedAs.{ClosedAs}
+use Rattle.kl_core.specs.declared.closed.ClosedAs.TheVariants.{Dropped}
+use Rattle.kl_core.specs.Closes.{IsClosed, closed_by, found_record, OwnFinishes, Finishes, OwnDrops, Drops}
+use Rattle.kl_core.specs.States.{IsState, StateAnswers}
+use Rattle.kl_core.specs.Answers.{IsAmple, IsAmpleWith, IsAny, IsOneAnswer}
+
+-- a refusal that is one, with what it hands back
+handed_back : {B : Type 0} (b : B) (x y : Refusal × B) → x.0 ≡ y.0 → x.1 ≡ b → y.1 ≡ b → x ≡ y
+handed_back b x y why first second = ap (λ w. (w, x.1)) why ∙ ap (λ c. (y.0, c)) (first ∙ sym second)
+
+-- ---- add
+one_add_refusal : (past : Past) (a : List ℕ) (t : TermsFields) (x y : Refusal) → RefusesAdd past a t x → RefusesAdd past a t y → x ≢ Memory → y ≢ Memory
+    → x ≡ y
+one_add_refusal past a t Exists Exists x y m n = refl
+one_add_refusal past a t AgentsFull AgentsFull x y m n = refl
+one_add_refusal past a t JournalRecords JournalRecords x y m n = refl
+one_add_refusal past a t JournalBytes JournalBytes x y m n = refl
+one_add_refusal past a t Memory _ x y m n = absurd (m refl)
+one_add_refusal past a t _ Memory x y m n = absurd (n refl)
+one_add_refusal past a t _ _ x y m n = grind arith
+
+no_add_refusal : (past : Past) (a : List ℕ) (t : TermsFields) (g : ℕ) (why : Refusal) → Adds a t (Ok g) past → RefusesAdd past a t why → why ≡ Memory
+no_add_refusal past a t g Memory x y = refl
+no_add_refusal past a t g _ x y = grind arith
+
+pub one_add : (past : Past) (a : List ℕ) (t : TermsFields) → IsOneAnswer IsAmpleWith (Adds a t) past
+one_add past a t (Ok g) (Ok h) x y m n = ap Ok (x.0 ∙ sym y.0)
+one_add past a t (Ok g) (Err e) x y m n = absurd (n (no_add_refusal past a t g e.0 x y.0))
+one_add past a t (Err e) (Ok h) x y m n = absurd (m (no_add_refusal past a t h e.0 y x.0))
+one_add past a t (Err e) (Err f) x y m n = ap Err (handed_back t e f (one_add_refusal past a t e.0 f.0 x.0 y.0 m n) x.1 y.1)
+
+-- ---- replace
+one_replace_refusal : (past : Past) (a : List ℕ) (p : PolicyFields) (x y : Refusal) → RefusesReplace past a p x → RefusesReplace past a p y → x ≢ Memory
+    → y ≢ Memory → x ≡ y
+one_replace_refusal past a p NoAgent NoAgent x y m n = refl
+one_replace_refusal past a p JournalRecords JournalRecords x y m n = refl
+one_replace_refusal past a p JournalBytes JournalBytes x y m n = refl
+one_replace_refusal past a p Memory _ x y m n = absurd (m refl)
+one_replace_refusal past a p _ Memory x y m n = absurd (n refl)
+one_replace_refusal past a p _ _ x y m n = grind arith
+
+no_replace_refusal : (past : Past) (a : List ℕ) (p : PolicyFields) (g : ℕ) (why : Refusal) → Replaces a p (Ok g) past → RefusesReplace past a p why
+    → why ≡ Memory
+no_replace_refusal past a p g Memory x y = refl
+no_replace_refusal past a p g _ x y = grind arith
+
+pub one_replace : (past : Past) (a : List ℕ) (p : PolicyFields) → IsOneAnswer IsAmpleWith (Replaces a p) past
+one_replace past a p (Ok g) (Ok h) x y m n = ap Ok (x.0 ∙ sym y.0)
+one_replace past a p (Ok g) (Err e) x y m n = absurd (n (no_replace_refusal past a p g e.0 x y.0))
+one_replace past a p (Err e) (Ok h) x y m n = absurd (m (no_replace_refusal past a p h e.0 y x.0))
+one_replace past a p (Err e) (Err f) x y m n = ap Err (handed_back p e f (one_replace_refusal past a p e.0 f.0 x.0 y.0 m n) x.1 y.1)
+
+-- ---- reactivate
+one_reactivate_refusal : (past : Past) (a : List ℕ) (x y : Refusal) → RefusesReactivate past a x → RefusesReactivate past a y → x ≢ Memory → y ≢ Memory
+    → x ≡ y
+one_reactivate_refusal past a NoAgent NoAgent x y m n = refl
+one_reactivate_refusal past a JournalRecords JournalRecords x y m n = refl
+one_reactivate_refusal past a Memory _ x y m n = absurd (m refl)
+one_reactivate_refusal past a _ Memory x y m n = absurd (n refl)
+one_reactivate_refusal past a _ _ x y m n = grind arith
+
+no_reactivate_refusal : (past : Past) (a : List ℕ) (g : ℕ) (why : Refusal) → Reactivates a (Ok g) past → RefusesReactivate past a why → why ≡ Memory
+no_reactivate_refusal past a g Memory x y = refl
+no_reactivate_refusal past a g _ x y = grind arith
+
+pub one_reactivate : (past : Past) (a : List ℕ) → IsOneAnswer IsAmple (Reactivates a) past
+one_reactivate past a (Ok g) (Ok h) x y m n = ap Ok (x.0 ∙ sym y.0)
+one_reactivate past a (Ok g) (Err e) x y m n = absurd (n (no_reactivate_refusal past a g e x y))
+one_reactivate past a (Err e) (Ok h) x y m n = absurd (m (no_reactivate_refusal past a h e y x))
+one_reactivate past a (Err e) (Err f) x y m n = ap Err (one_reactivate_refusal past a e f x y m n)
+
+-- ---- stop
+one_stop_refusal : (past : Past) (a : List ℕ) (x y : Refusal) → RefusesStop past a x → RefusesStop past a y → x ≢ Memory → y ≢ Memory → x ≡ y
+one_stop_refusal past a NoAgent NoAgent x y m n = refl
+one_stop_refusal past a (WrongState o) (WrongState p) x y m n = ap WrongState (same_Some o p (sym x.1 ∙ y.1))
+one_stop_refusal past a JournalRecords JournalRecords x y m n = refl
+one_stop_refusal past a Memory _ x y m n = absurd (m refl)
+one_stop_refusal past a _ Memory x y m n = absurd (n refl)
+one_stop_refusal past a _ _ x y m n = grind arith
+
+no_stop_refusal : (past : Past) (a : List ℕ) (u : Unit {0}) (why : Refusal) → Stops a (Ok u) past → RefusesStop past a why → why ≡ Memory
+no_stop_refusal past a u Memory x y = refl
+no_stop_refusal past a u _ x y = grind arith
+
+pub one_stop : (past : Past) (a : List ℕ) → IsOneAnswer IsAmple (Stops a) past
+one_stop past a (Ok u) (Ok v) x y m n = refl
+one_stop past a (Ok u) (Err e) x y m n = absurd (n (no_stop_refusal past a u e x y))
+one_stop past a (Err e) (Ok v) x y m n = absurd (m (no_stop_refusal past a v e y x))
+one_stop past a (Err e) (Err f) x y m n = ap Err (one_stop_refusal past a e f x y m n)
+
+-- ---- remove
+one_remove_refusal : (past : Past) (a : List ℕ) (x y : Refusal) → RefusesRemove past a x → RefusesRemove past a y → x ≢ Memory → y ≢ Memory → x ≡ y
+one_remove_refusal past a NoAgent NoAgent x y m n = refl
+one_remove_refusal past a JournalRecords JournalRecords x y m n = refl
+one_remove_refusal past a Memory _ x y m n = absurd (m refl)
+one_remove_refusal past a _ Memory x y m n = absurd (n refl)
+one_remove_refusal past a _ _ x y m n = grind arith
+
+no_remove_refusal : (past : Past) (a : List ℕ) (u : Unit {0}) (why : Refusal) → Removes a (Ok u) past → RefusesRemove past a why → why ≡ Memory
+no_remove_refusal past a u Memory x y = refl
+no_remove_refusal past a u _ x y = grind arith
+
+pub one_remove : (past : Past) (a : List ℕ) → IsOneAnswer IsAmple (Removes a) past
+one_remove past a (Ok u) (Ok v) x y m n = refl
+one_remove past a (Ok u) (Err e) x y m n = absurd (n (no_remove_refusal past a u e x y))
+one_remove past a (Err e) (Ok v) x y m n = absurd (m (no_remove_refusal past a v e y x))
+one_remove past a (Err e) (Err f) x y m n = ap Err (one_remove_refusal past a e f x y m n)
+
+-- ---- begin
+one_installed : (past : Past) (a : List ℕ) (i j : Installed) → installed (own past a) ≡ Some i → installed (own past a) ≡ Some j → i ≡ j
+one_installed past a i j is also = same_Some i j (sym is ∙ also)
+
+-- an agent that may be polled has no open poll of its installed generation
+not_polled : (past : Past) (a : List ℕ) (p : ℕ) → MayPoll past a → ¬ (IsPolled past a p)
+not_polled past a p (g, t, may) (i, is, live, busy) =
+    let same = ap (λ (j : Installed). j.generation) (one_installed past a i (record { generation = g; terms = t }) is may.with) in
+    may.idle p (subst (λ (n : ℕ). IsBusy past a n p) same busy)
+
+-- and it is not refused before room is asked for
+not_barred : (past : Past) (a : List ℕ) (why : Refusal) → MayPoll past a → RefusesBegin past a why → why ≢ Memory
+    → (why ≡ JournalRecords) ⊎ (why ≡ JournalBytes)
+not_barred past a NoAgent (g, t, may) none n = absurd (none-some _ (sym none ∙ may.with))
+not_barred past a (WrongState o) (g, t, may) over n = absurd (none-some o (sym may.live ∙ over.1))
+not_barred past a (Busy p) may busy n = absurd (not_polled past a p may busy)
+not_barred past a JournalRecords may full n = inl refl
+not_barred past a JournalBytes may full n = inr refl
+not_barred past a Memory may short n = absurd (n refl)
+not_barred past a _ may none n = absurd none
+
+one_poll : (H : History) (a : List ℕ) (p q : ℕ) → Legal H → IsPolled (past_of H) a p → IsPolled (past_of H) a q → p ≡ q
+one_poll H a p q legal (i, is, live, busy) (j, also, _, other) =
+    let same = ap (λ (k : Installed). k.generation) (one_installed (past_of H) a i j is also) in
+    (ends_once H legal).open_once a j.generation p q (subst (λ (n : ℕ). IsBusy (past_of H) a n p) same busy) other
+
+one_begin_refusal : (H : History) (a : List ℕ) (x y : Refusal) → Legal H → RefusesBegin (past_of H) a x → RefusesBegin (past_of H) a y → x ≢ Memory
+    → y ≢ Memory → x ≡ y
+one_begin_refusal H a NoAgent NoAgent legal x y m n = refl
+one_begin_refusal H a (WrongState o) (WrongState p) legal x y m n = ap WrongState (same_Some o p (sym x.1 ∙ y.1))
+one_begin_refusal H a (Busy p) (Busy q) legal x y m n = ap Busy (one_poll H a p q legal x y)
+one_begin_refusal H a JournalRecords JournalRecords legal x y m n = refl
+one_begin_refusal H a JournalBytes JournalBytes legal x y m n = refl
+one_begin_refusal H a Memory _ legal x y m n = absurd (m refl)
+one_begin_refusal H a _ Memory legal x y m n = absurd (n refl)
+one_begin_refusal H a (Busy p) JournalRecords legal x y m n = absurd (not_polled (past_of H) a p y.0 x)
+one_begin_refusal H a (Busy p) JournalBytes legal x y m n = absurd (not_polled (past_of H) a p y.0 x)
+one_begin_refusal H a JournalRecords (Busy q) legal x y m n = absurd (not_polled (past_of H) a q x.0 y)
+one_begin_refusal H a JournalBytes (Busy q) legal x y m n = absurd (not_polled (past_of H) a q x.0 y)
+one_begin_refusal H a _ _ legal x y m n = grind arith
+
+no_begin_refusal : (past : Past) (a n : List ℕ) (at : ℕ) (t : TicketFields) (why : Refusal) → Begins a n at t past → RefusesBegin past a why → why ≡ Memory
+no_begin_refusal past a n at t Memory x y = refl
+no_begin_refusal past a n at t (Busy p) x y = absurd (not_polled past a p (t.generation, t.terms, x.idle) y)
+no_begin_refusal past a n at t NoAgent x y = absurd (none-some _ (sym y ∙ x.idle.with))
+no_begin_refusal past a n at t (WrongState o) x y = absurd (none-some o (sym x.idle.live ∙ y.1))
+no_begin_refusal past a n at t JournalRecords x y = absurd (y.1 x.room)
+no_begin_refusal past a n at t JournalBytes x y = absurd (y.2 x.bytes)
+no_begin_refusal past a n at t _ x y = absurd y
+
+ticket_by : ℕ → List ℕ → ℕ → List ℕ → TermsFields → Option Kept → TicketFields
+ticket_by p a g n t k = record { poll = p; agent = a; generation = g; nonce = n; terms = t; kept = k }
+
+pub same_tickets : (t u : TicketFields) → t.poll ≡ u.poll → t.agent ≡ u.agent → t.generation ≡ u.generation → t.nonce ≡ u.nonce → t.terms ≡ u.terms
+    → t.kept ≡ u.kept → t ≡ u
+unfolding ticket_by
+same_tickets t u poll agent generation nonce terms kept =
+    let same : ticket_by t.poll t.agent t.generation t.nonce t.terms t.kept ≡ ticket_by u.poll u.agent u.generation u.nonce u.terms u.kept = cc in same
+
+the_installed : ℕ → TermsFields → Installed
+the_installed g t = record { generation = g; terms = t }
+
+one_ticket : (past : Past) (a n : List ℕ) (at : ℕ) (t u : TicketFields) → Begins a n at t past → Begins a n at u past → t ≡ u
+unfolding the_installed
+one_ticket past a n at t u x y =
+    let as_named = λ (k : TicketFields). the_installed k.generation k.terms in
+    let same = one_installed past a (as_named t) (as_named u) x.idle.with y.idle.with in
+    same_tickets t u (x.next ∙ sym y.next) (x.agent ∙ sym y.agent) (ap (λ (i : Installed). i.generation) same) (x.nonce ∙ sym y.nonce)
+    (ap (λ (i : Installed). i.terms) same) (x.kept ∙ sym y.kept)
+
+pub one_begin : (H : History) (a n : List ℕ) (at : ℕ) → Legal H → IsOneAnswer IsAmple (BeginAnswers a n at) (past_of H)
+one_begin H a n at legal (Ok t) (Ok u) x y k m = ap Ok (one_ticket (past_of H) a n at t u x y)
+one_begin H a n at legal (Ok t) (Err e) x y k m = absurd (m (no_begin_refusal (past_of H) a n at t e x y))
+one_begin H a n at legal (Err e) (Ok u) x y k m = absurd (k (no_begin_refusal (past_of H) a n at u e y x))
+one_begin H a n at legal (Err e) (Err f) x y k m = ap Err (one_begin_refusal H a e f legal x y k m)
+
+-- ---- closes
+closed_so : ℕ → List ℕ → ClosedAs → Bool → Option Op → Closed
+closed_so p a what now op = record { poll = p; agent = a; as_what = what; current = now; op = op }
+
+pub same_closes : (c d : Closed) → c.poll ≡ d.poll → c.agent ≡ d.agent → c.as_what ≡ d.as_what → c.current ≡ d.current → c.op ≡ d.op → c ≡ d
+unfolding closed_so
+same_closes c d poll agent what current op =
+    let same : closed_so c.poll c.agent c.as_what c.current c.op ≡ closed_so d.poll d.agent d.as_what d.current d.op = cc in same
+
+pub one_close : (past : Past) (made : Record) (t : TicketFields) (what : ClosedAs) (c d : Closed) → IsClosed past made t what c → IsClosed past made t what d
+    → c ≡ d
+one_close past made t what c d x y =
+    same_closes c d (x.poll ∙ sym y.poll) (x.agent ∙ sym y.agent) (x.closed_as ∙ sym y.closed_as) (x.now ∙ sym y.now)
+    ((are_one (own (made ∷ past) t.agent)).state c.op d.op x.state y.state)
+
+-- where the record depends on whether the close is current
+pub one_close_by : (past : Past) (made : Bool → Record) (t : TicketFields) (what : ClosedAs) (c d : Closed) → IsClosed past (made c.current) t what c
+    → IsClosed past (made d.current) t what d → c ≡ d
+one_close_by past made t what c d x y =
+    one_close past (made c.current) t what c d x (subst (λ (now : Bool). IsClosed past (made now) t what d) (y.now ∙ sym x.now) y)
+
+pub one_own_finish : (past : Past) (a : AppraisedFields) → IsOneAnswer IsAny (OwnFinishes a) past
+one_own_finish past a (Ok c) (Ok d) x y m n = ap Ok (one_close_by past (found_record a) a.ticket (closed_by a.finding) c d x.1 y.1)
+one_own_finish past a (Ok c) (Err e) x y m n = absurd (false≢true (sym y.0 ∙ x.0))
+one_own_finish past a (Err e) (Ok d) x y m n = absurd (false≢true (sym x.0 ∙ y.0))
+one_own_finish past a (Err e) (Err f) x y m n = ap Err (x.1 ∙ sym y.1)
+
+pub one_finish : (past : Past) (a : AppraisedFields) → IsOneAnswer IsAny (Finishes a) past
+one_finish past a (Ok c) (Ok d) x y m n = ap Ok (one_close_by past (found_record a) a.ticket (closed_by a.finding) c d x.1 y.1)
+one_finish past a (Ok c) (Err e) x y m n = absurd (y.0 x.0)
+one_finish past a (Err e) (Ok d) x y m n = absurd (x.0 y.0)
+one_finish past a (Err e) (Err f) x y m n = ap Err (x.1 ∙ sym y.1)
+
+pub one_own_drop : (past : Past) (t : TicketFields) (why : DropWhy) → IsOneAnswer IsAny (OwnDrops t why) past
+one_own_drop past t why (Ok c) (Ok d) x y m n = ap Ok (one_close past (DroppedRecord t.poll why) t (Dropped why) c d x.1 y.1)
+one_own_drop past t why (Ok c) (Err e) x y m n = absurd (false≢true (sym y.0 ∙ x.0))
+one_own_drop past t why (Err e) (Ok d) x y m n = absurd (false≢true (sym x.0 ∙ y.0))
+one_own_drop past t why (Err e) (Err f) x y m n = ap Err (x.1 ∙ sym y.1)
+
+pub one_drop : (past : Past) (t : TicketFields) (why : DropWhy) → IsOneAnswer IsAny (Drops t why) past
+one_drop past t why (Ok c) (Ok d) x y m n = ap Ok (one_close past (DroppedRecord t.poll why) t (Dropped why) c d x.1 y.1)
+one_drop past t why (Ok c) (Err e) x y m n = absurd (y.0 x.0)
+one_drop past t why (Err e) (Ok d) x y m n = absurd (x.0 y.0)
+one_drop past t why (Err e) (Err f) x y m n = ap Err (x.1 ∙ sym y.1)
+
+-- ---- state
+state_by : Op → ℕ → ℕ → State
+state_by op g n = record { op = op; generation = g; accepted = n }
+
+same_states : (s z : State) → s.op ≡ z.op → s.generation ≡ z.generation → s.accepted ≡ z.accepted → s ≡ z
+unfolding state_by
+same_states s z op generation accepted =
+    let same : state_by s.op s.generation s.accepted ≡ state_by z.op z.generation z.accepted = cc in same
+
+one_state_of : (past : Past) (a : List ℕ) (s z : State) → IsState (own past a) s → IsState (own past a) z → s ≡ z
+one_state_of past a s z x y =
+    let one = are_one (own past a) in
+    let some = λ (i : Installed) (is : installed (own past a) ≡ Some i). ap is_some is in
+    let op = same_Some s.op z.op (one.state (Some s.op) (Some z.op) (some x.with x.installed, x.op) (some y.with y.installed, y.op)) in
+    let same = one_installed past a x.with y.with x.installed y.installed in
+    let list = one.accepted x.accepted.0 y.accepted.0 x.accepted.1 y.accepted.1 x.accepted.2 y.accepted.2 in
+    same_states s z op (x.generation ∙ ap (λ (i : Installed). i.generation) same ∙ sym y.generation)
+    (sym x.accepted.3 ∙ ap (λ (l : List EntryFields). length l) list.0 ∙ y.accepted.3)
+
+pub one_state : (past : Past) (a : List ℕ) → IsOneAnswer IsAny (StateAnswers a) past
+one_state past a None None x y m n = refl
+one_state past a None (Some z) x y m n = absurd (none-some y.with (sym x ∙ y.installed))
+one_state past a (Some s) None x y m n = absurd (none-some x.with (sym y ∙ x.installed))
+one_state past a (Some s) (Some z) x y m n = ap Some (one_state_of past a s z x y)

@@ -1,0 +1,18 @@
+use Rattle.kl_core.proofs.OneAnswer.{one_add, one_replace, one_reactivate, one_stop, one_remove}
+use Rattle.kl_core.proofs.OneAnswer.{one_begin, one_own_finish, one_finish, one_own_drop, one_drop, one_state}
+use Rattle.kl_core.proofs.answers.single_answers.Goals as goal
+
+pub returns : goal.returns
+returns c = record {
+  adds = one_add;
+  replaces = one_replace;
+  reactivates = one_reactivate;
+  stops = one_stop;
+  removes = one_remove;
+  begins = one_begin;
+  finishes = one_finish;
+  own_finishes = one_own_finish;
+  drops = one_drop;
+  own_drops = one_own_drop;
+  state = one_state;
+}

@@ -1,0 +1,23 @@
+-- That a call has one answer, unless memory runs out.
+use Rattle.std.specs.Prelude.{◌≡◌, ◌≢◌, Result, Ok, Err, ⊤}
+use Rattle.kl_history.specs.Records.{Past}
+use Rattle.kl_core.specs.declared.refusal.Refusal.{Refusal}
+use Rattle.kl_core.specs.declared.refusal.Refusal.TheVariants.{Memory}
+
+-- the answer is not want of memory
+abbrev pub IsAmple : {A : Type 0} → Result A Refusal → Type 0
+IsAmple (Ok a) = ⊤
+IsAmple (Err why) = why ≢ Memory
+
+-- the same, where a refusal comes with what it hands back
+abbrev pub IsAmpleWith : {A B : Type 0} → Result A (Refusal × B) → Type 0
+IsAmpleWith (Ok a) = ⊤
+IsAmpleWith (Err e) = e.0 ≢ Memory
+
+-- no answer is want of memory
+abbrev pub IsAny : {A : Type 0} → A → Type 0
+IsAny a = ⊤
+
+-- of the answers of this kind that a call may give behind these records, one at most is
+abbrev pub IsOneAnswer : {A : Type 0} → (A → Type 0) → (A → Past → Type 0) → Past → Type 0
+IsOneAnswer {A} IsOfKind Answers past = (x y : A) → Answers x past → Answers y past → IsOfKind x → IsOfKind y → x ≡ y

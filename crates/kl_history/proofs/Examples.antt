@@ -154,6 +154,7 @@ first_pass x r found = record {
   where
     lost_due : IsDue (own_of (passed x r ++ begun x 2 1 ∷ lost_poll 2 ∷ []))
     lost_due = due_by (own_of (passed x r ++ begun x 2 1 ∷ lost_poll 2 ∷ [])) _ _ refl x.has_v refl (λ boot _ none. none)
+
     -- the first release
     release_row : (past : Past) → handings past ≡ 0 → installed (own past a1) ≡ Some (record { generation = 1; terms = x.terms }) → last_pass (own past a1) ≡ Some (record { poll = 1; evidence = r.evidence })
         → IsDue (own past a1) → ended (own past a1) ≡ None → missed (own past a1) ≡ 0 → ((n p : ℕ) → ¬ (handed_for n (own past a1) ≡ Some p)) → Row past (Release 1 a1 1 1)
@@ -369,6 +370,7 @@ released_and_replaced x r q found too =
     unreached x r boot first second signs (inl (p, handed, inl (same, by))) is apart = apart (sym is ∙ boot_same r.evidence boot first by signs)
     unreached x r boot first second signs (inl (p, handed, inr none)) is apart = none
     unreached x r boot first second signs (inr none) is apart = none
+
     -- a release from before the agent was added again reached no boot
     not_counted : (x : Given) (r q : Reply) (boot : Boot) → ¬ (HasReached (Settled 1 Arrived false ∷ past_of (sent_and_added x r q)) boot)
     not_counted x r q boot (inl (p, handed, by)) = none-some p handed

@@ -5,7 +5,7 @@ ghost use Rattle.kl_entry.specs.Lines.{AreEntries};
 ghost use Rattle.kl_appraise.specs.Inner.Listed.{HasSmallPlace, IsListFault};
 
 use kl_entry::{Entry, LineFault, lines, read_entry};
-use std::alloc::{AllocFailed, Global};
+use std::alloc::{AllocError, AllocFailed, Global};
 
 /// Why a list gave no entries.
 #[derive(Clone, Copy)]
@@ -14,6 +14,17 @@ pub enum ListFault {
     Line(usize, LineFault),
     /// Memory ran out.
     Memory,
+}
+
+impl From<AllocError> for ListFault {
+    ghost use Rattle.std.specs.Prelude.{◌≡◌};
+    ghost use Rattle.kl_appraise.specs.declared.listed.ListFault.TheVariants.{Memory};
+
+    ghost from_gives = { λ _ fault. fault ≡ Memory };
+
+    fn from(_error: AllocError) -> ListFault {
+        ListFault::Memory
+    }
 }
 
 impl<T: Drop> From<AllocFailed<T>> for ListFault {
@@ -33,7 +44,8 @@ pub fn read_entries(alloc: Global, list: &str) -> Result<Vec<Entry<'_>>, ListFau
     ensures small { IfErr result HasSmallPlace }
     ensures fault { IfErr result (λ fault. IsListFault list.now fault) }
 {
-    let mut entries = Vec::new(alloc);
+    // Room for all of them is taken at once, for most lists: a line of one is mostly longer than this.
+    let mut entries = Vec::with_capacity(alloc, list.len() / 96 + 1)?;
     for line in lines(list) {
         match read_entry(line) {
             Ok(entry) => entries.push(entry)?,

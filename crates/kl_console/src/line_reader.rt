@@ -21,6 +21,10 @@ const SCRIPT_LIMIT: u64 = 1_099_511_627_776;
 /// How many bytes one turn asks the source for. A line that took more memory lets it go.
 const TURN: usize = 65_536;
 
+/// How many bytes a line has room for, which is more than it may have: memory that is not written to is not
+/// taken, and the C library gives back so large a piece at once and keeps none of that size for later.
+const ROOM: usize = 34_603_008;
+
 /// What was found of the next line.
 #[derive(Clone, Copy, Debug, PartialEq, Eq)]
 pub enum Found {
@@ -62,6 +66,16 @@ fn newline_at(bytes: &[u8]) -> Option<usize>
     memchr(b'\n', bytes)
 }
 
+/// An empty line with room for a long one, where there is memory for that.
+fn with_room(alloc: Global) -> Vec<u8>
+    ensures { result.items ≡ [] }
+{
+    match Vec::with_capacity(alloc, ROOM) {
+        Ok(line) => line,
+        Err(_) => Vec::new(alloc),
+    }
+}
+
 /// Reads the lines of a script, in turns of bounded size. The line that was read last stays until the next is read.
 #[derive(Drop)]
 pub struct LineReader {
@@ -96,7 +110,7 @@ impl LineReader {
         ensures passed { IfOk result (λ r. r.passed ≡ 0) }
     {
         Ok(LineReader {
-            line: Vec::new(alloc),
+            line: with_room(alloc),
             chunk: vec![in alloc; 0; TURN]?,
             start: 0,
             end: 0,
@@ -115,11 +129,11 @@ impl LineReader {
     pub fn let_go(&mut self, alloc: Global)
         ensures { self.new ≡ record { line = []; ahead = self.old.ahead; passed = self.old.passed } }
     {
-        // A buffer of few bytes is kept, so that a small line costs no allocation.
-        self.line.clear();
-        if self.line.capacity() > TURN {
-            self.line = Vec::new(alloc);
+        // The memory of few bytes is kept, so that a small line costs no allocation.
+        if self.line.len() > TURN {
+            self.line = with_room(alloc);
         }
+        self.line.clear();
     }
 
     /// Reads the next line. It stays until the next one is read.

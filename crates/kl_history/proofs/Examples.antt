@@ -20,14 +20,13 @@ use Rattle.kl_appraise.specs.Terms.{TermsFields}
 use Rattle.kl_appraise.specs.QuoteRules.{IsUnasked}
 use Rattle.kl_appraise.specs.ListRules.{check_of}
 use Rattle.kl_appraise.specs.Outcome.{IsVerdict}
-use Rattle.kl_history.specs.declared.record.Record.{Record}
 use Rattle.kl_history.specs.declared.record.Record.TheVariants.{Dropped, Release, Settled, Stop, Remove}
 use Rattle.kl_history.specs.Records.{History, Past, past_of, Start, start_of, Handing, handing_of, handings, is_unsettled, is_open, terms_of, own}
 use Rattle.kl_history.specs.LookBacks.{Installed, installed, losses, missed, Passing, last_pass}
 use Rattle.kl_history.specs.Accepted.{no_boot, SignsBoot, HasAccepted, WasAccepted}
 use Rattle.kl_history.specs.States.{ended, is_current, handed_for, HasReached, IsDue, IsLiveOp}
 use Rattle.kl_history.specs.Legal.{MayClose, Row, weight_of, Legal}
-use Rattle.kl_history.specs.Worked.{a1, Given, Reply, IsFound, IsFoundNext, added, replaced, reactivated, begun, verdict, lost_poll, own_of, IsIn, Accepts, ClosesAs, IsNotBegun, IsNotReleased, polled, passed, FirstPass, late, LatePass, LateFailure, invalid, InvalidQuote, failed_twice, SecondFailure, added_again, gone, AddedAgain, four_losses, five_losses, FiveLosses, released, settled_late, passed_again, ReleasedAndReplaced, missed_delivery, four_missed, five_missed, Undelivered, polled_again, restarted, passed_anew, Rebooted, Continued, stopped, Stopped, PassWithoutShare, passed_afresh, arrived_before, sent_and_replaced, sent_and_added, OfTwo}
+use Rattle.kl_history.specs.Worked.{a1, Given, Reply, IsFound, IsFoundNext, added, replaced, reactivated, begun, verdict, lost_poll, own_of, IsIn, Accepts, ClosesAs, IsNotBegun, IsNotReleased, polled, passed, FirstPass, late, LatePass, LateFailure, invalid, InvalidQuote, failed_twice, SecondFailure, added_again, gone, AddedAgain, four_losses, five_losses, FiveLosses, released, settled_late, passed_again, ReleasedAndReplaced, missed_delivery, four_missed, five_missed, Undelivered, polled_again, restarted, passed_anew, Rebooted, Continued, stopped, Stopped, PassWithoutShare, passed_afresh, arrived_before, sent_and_added, OfTwo}
 use Rattle.kl_history.proofs.ShortHistories.{AreRows, IsLight, legal_rows, idle, all_settled}
 use Rattle.kl_history.proofs.OneStanding.{boot_same, state_same}
 
@@ -154,6 +153,7 @@ first_pass x r found = record {
   where
     lost_due : IsDue (own_of (passed x r ++ begun x 2 1 ∷ lost_poll 2 ∷ []))
     lost_due = due_by (own_of (passed x r ++ begun x 2 1 ∷ lost_poll 2 ∷ [])) _ _ refl x.has_v refl (λ boot _ none. none)
+
     -- the first release
     release_row : (past : Past) → handings past ≡ 0 → installed (own past a1) ≡ Some (record { generation = 1; terms = x.terms }) → last_pass (own past a1) ≡ Some (record { poll = 1; evidence = r.evidence })
         → IsDue (own past a1) → ended (own past a1) ≡ None → missed (own past a1) ≡ 0 → ((n p : ℕ) → ¬ (handed_for n (own past a1) ≡ Some p)) → Row past (Release 1 a1 1 1)
@@ -369,6 +369,7 @@ released_and_replaced x r q found too =
     unreached x r boot first second signs (inl (p, handed, inl (same, by))) is apart = apart (sym is ∙ boot_same r.evidence boot first by signs)
     unreached x r boot first second signs (inl (p, handed, inr none)) is apart = none
     unreached x r boot first second signs (inr none) is apart = none
+
     -- a release from before the agent was added again reached no boot
     not_counted : (x : Given) (r q : Reply) (boot : Boot) → ¬ (HasReached (Settled 1 Arrived false ∷ past_of (sent_and_added x r q)) boot)
     not_counted x r q boot (inl (p, handed, by)) = none-some p handed

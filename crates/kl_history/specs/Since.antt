@@ -1,5 +1,5 @@
 -- What is looked back for, told in another way: by the last record that decides it, and by what came after that.
-use Rattle.std.specs.Prelude.{◌≡◌, ◌⊎◌, ◌↔◌, ℕ, Bool, true, false, ◌||◌, if◌then◌else◌, List, [], ◌∷◌, ◌++◌, count_by, Option, Some, None, option_and_then}
+use Rattle.std.specs.Prelude.{◌≡◌, ◌↔◌, ℕ, Bool, true, false, ◌||◌, if◌then◌else◌, List, [], ◌∷◌, ◌++◌, count_by, Option, Some, None, option_and_then}
 use Rattle.std.specs.List.{list_any}
 use Rattle.kl_entry.specs.Entries.{EntryFields}
 use Rattle.kl_quote.specs.declared.evidence.Evidence.{Evidence}
@@ -105,14 +105,14 @@ pub record AreToldAgain (own : Past) : Type 0 where
   pub passes : last_pass own ≡ option_and_then passing_of (last_of decides_anew own)
   -- the last of Install, Remove, current Restart and current Pass says what is accepted
   pub accepts : (entries : List EntryFields) (boot : Boot)
-    → IsAccepted own entries boot ↔ AcceptsAfter (last_of decides_accepted own) (ahead_of decides_accepted own) entries boot
+      → IsAccepted own entries boot ↔ AcceptsAfter (last_of decides_accepted own) (ahead_of decides_accepted own) entries boot
   -- and what was accepted when a poll began is what was before its Begin
   pub accepted : (p : ℕ) (entries : List EntryFields) (boot : Boot) → WasAccepted p own entries boot ↔ IsAccepted (ahead_of (begins p) own) entries boot
   -- a release counts that was made after the last Install by Add
   pub hands : (n : ℕ) → handed_for n own ≡ option_and_then handed_by (last_of (releases n) (since is_add own))
   -- a poll passed under the boot that the quote of one of its passes signs
   pub signs : (p : ℕ) (boot : Boot) → PassedUnder p own boot
-    ↔ ((newer older : Past) × (e : Evidence) × (s : Bool) × (cut : ℕ) × (c : Bool) × StandsAmid newer (Verdict p e s (Pass cut) c) older own × SignsBoot e boot)
+      ↔ ((newer older : Past) × (e : Evidence) × (s : Bool) × (cut : ℕ) × (c : Bool) × StandsAmid newer (Verdict p e s (Pass cut) c) older own × SignsBoot e boot)
   -- V reached a boot by an arrival after the last Install by Add, current or not, of a release that was made for such a pass
   pub reaches : (boot : Boot) → HasReached own boot
-    ↔ ((newer older : Past) × (n : ℕ) × (c : Bool) × StandsAmid newer (Settled n outcome.Arrived c) older own × (list_any is_add newer ≡ false) × ReachesBy n older boot)
+      ↔ ((newer older : Past) × (n : ℕ) × (c : Bool) × StandsAmid newer (Settled n outcome.Arrived c) older own × (list_any is_add newer ≡ false) × ReachesBy n older boot)

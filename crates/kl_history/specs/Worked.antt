@@ -398,17 +398,17 @@ of_two x r =
 pub record OfTwo (x : Given) (r : Reply) : Type 0 where
   pub of_one : own_of (of_two x r) ≡ Settled 2 Arrived true ∷ Release 2 a1 1 1 ∷ verdict 1 r (Pass 2) true ∷ begun x 1 1 ∷ added x 1 ∷ []
   pub of_other : own (past_of (of_two x r)) b1
-    ≡ Remove b1
-    ∷ Stop b1
-    ∷ Settled 1 Missed true
-    ∷ Release 1 b1 2 5
-    ∷ verdict 5 r (Pass 2) true
-    ∷ begun_too x 5
-    ∷ Restart 4 r.evidence r.signed true
-    ∷ begun_too x 4
-    ∷ Dropped 3 dropped.Keys
-    ∷ begun_too x 3
-    ∷ lost_poll 2
-    ∷ begun_too x 2
-    ∷ Install b1 2 x.terms Add
-    ∷ []
+      ≡ Remove b1
+      ∷ Stop b1
+      ∷ Settled 1 Missed true
+      ∷ Release 1 b1 2 5
+      ∷ verdict 5 r (Pass 2) true
+      ∷ begun_too x 5
+      ∷ Restart 4 r.evidence r.signed true
+      ∷ begun_too x 4
+      ∷ Dropped 3 dropped.Keys
+      ∷ begun_too x 3
+      ∷ lost_poll 2
+      ∷ begun_too x 2
+      ∷ Install b1 2 x.terms Add
+      ∷ []

@@ -1,11 +1,13 @@
 //! What no clause says: that calls are done with ample memory, up to the limits of a book.
 
+use crate::entry::{Entry, Opening};
 use crate::*;
 use kl_appraise::{SharedTerms, Terms};
 use kl_bank::Bank;
 use kl_policy::{Policy, read_flat};
 use kl_states::{AgentId, DropWhy, Nonce, Op};
 use std::alloc::Global;
+use std::mem::size_of;
 use std::test::*;
 
 /// The number's agent: a letter and two digits.
@@ -135,6 +137,14 @@ fn a_journal_takes_1000000_records(rt: HostRuntime) -> Result<(), Fail> {
     assert_eq!(rt; begun(&mut book, 1)?, Err(Refusal::JournalRecords));
     assert_eq!(rt; book.reactivate(&agent), Ok(1_000_000));
     assert_eq!(rt; book.reactivate(&agent), Err(Refusal::JournalRecords));
+    Ok(())
+}
+
+#[test]
+fn agents_polls_and_records_have_the_sizes_that_bench_tells(rt: HostRuntime) -> Result<(), Fail> {
+    let agent = size_of::<AgentId>() + size_of::<Entry>();
+    let poll = size_of::<u64>() + size_of::<Opening>();
+    assert_eq!(rt; (agent, poll, size_of::<Record>()), (144, 168, 184));
     Ok(())
 }
 

@@ -20,14 +20,13 @@ use Rattle.kl_appraise.specs.Terms.{TermsFields}
 use Rattle.kl_appraise.specs.QuoteRules.{IsUnasked}
 use Rattle.kl_appraise.specs.ListRules.{check_of}
 use Rattle.kl_appraise.specs.Outcome.{IsVerdict}
-use Rattle.kl_history.specs.declared.record.Record.{Record}
 use Rattle.kl_history.specs.declared.record.Record.TheVariants.{Dropped, Release, Settled, Stop, Remove}
 use Rattle.kl_history.specs.Records.{History, Past, past_of, Start, start_of, Handing, handing_of, handings, is_unsettled, is_open, terms_of, own}
 use Rattle.kl_history.specs.LookBacks.{Installed, installed, losses, missed, Passing, last_pass}
 use Rattle.kl_history.specs.Accepted.{no_boot, SignsBoot, HasAccepted, WasAccepted}
 use Rattle.kl_history.specs.States.{ended, is_current, handed_for, HasReached, IsDue, IsLiveOp}
 use Rattle.kl_history.specs.Legal.{MayClose, Row, weight_of, Legal}
-use Rattle.kl_history.specs.Worked.{a1, Given, Reply, IsFound, IsFoundNext, added, replaced, reactivated, begun, verdict, lost_poll, own_of, IsIn, Accepts, ClosesAs, IsNotBegun, IsNotReleased, polled, passed, FirstPass, late, LatePass, LateFailure, invalid, InvalidQuote, failed_twice, SecondFailure, added_again, gone, AddedAgain, four_losses, five_losses, FiveLosses, released, settled_late, passed_again, ReleasedAndReplaced, missed_delivery, four_missed, five_missed, Undelivered, polled_again, restarted, passed_anew, Rebooted, Continued, stopped, Stopped, PassWithoutShare, passed_afresh, arrived_before, sent_and_replaced, sent_and_added, OfTwo}
+use Rattle.kl_history.specs.Worked.{a1, Given, Reply, IsFound, IsFoundNext, added, replaced, reactivated, begun, verdict, lost_poll, own_of, IsIn, Accepts, ClosesAs, IsNotBegun, IsNotReleased, polled, passed, FirstPass, late, LatePass, LateFailure, invalid, InvalidQuote, failed_twice, SecondFailure, added_again, gone, AddedAgain, four_losses, five_losses, FiveLosses, released, settled_late, passed_again, ReleasedAndReplaced, missed_delivery, four_missed, five_missed, Undelivered, polled_again, restarted, passed_anew, Rebooted, Continued, stopped, Stopped, PassWithoutShare, passed_afresh, arrived_before, sent_and_added, OfTwo}
 use Rattle.kl_history.proofs.ShortHistories.{AreRows, IsLight, legal_rows, idle, all_settled}
 use Rattle.kl_history.proofs.OneStanding.{boot_same, state_same}
 

@@ -1,5 +1,5 @@
 -- What is looked back for, told in another way: by the last record that decides it, and by what came after that.
-use Rattle.std.specs.Prelude.{◌≡◌, ◌⊎◌, ◌↔◌, ℕ, Bool, true, false, ◌||◌, if◌then◌else◌, List, [], ◌∷◌, ◌++◌, count_by, Option, Some, None, option_and_then}
+use Rattle.std.specs.Prelude.{◌≡◌, ◌↔◌, ℕ, Bool, true, false, ◌||◌, if◌then◌else◌, List, [], ◌∷◌, ◌++◌, count_by, Option, Some, None, option_and_then}
 use Rattle.std.specs.List.{list_any}
 use Rattle.kl_entry.specs.Entries.{EntryFields}
 use Rattle.kl_quote.specs.declared.evidence.Evidence.{Evidence}

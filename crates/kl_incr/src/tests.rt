@@ -44,12 +44,10 @@ fn evidence(alloc: Global, quote: &str, list: &str) -> Result<Evidence, Fail> {
     Ok(Evidence::new(bank, 0, public, quote, list).ok_or("it is within the bound")?)
 }
 
-/// What was found, how many entries are kept and whether the signature was asked for, or why the ticket came back. Both are
-/// let go.
+/// What was found, how many entries are kept and whether the key object said yes, or why the ticket came back. Both are let go.
 fn appraised<L: Ledger>(
     alloc: Global,
-    quote: &str,
-    list: &str,
+    evidence: Evidence,
     fault: u64,
     blank: Blank,
 ) -> Result<Result<(Outcome, u64, bool), (u64, DropWhy)>, Fail>
@@ -60,13 +58,6 @@ fn appraised<L: Ledger>(
     let mut steps = Steps::<L>::of(blank);
     let mut keys = MacKeys::new(alloc, &[fault]).ok().ok_or("memory")?;
     let ticket = ticket(alloc)?;
-    let evidence = match evidence(alloc, quote, list) {
-        Ok(evidence) => evidence,
-        Err(fail) => {
-            ticket.discard();
-            return Err(fail);
-        },
-    };
     Ok(
         match appraise_from(alloc, ticket, evidence, &mut keys, &mut steps) {
             Ok(done) => {
@@ -97,7 +88,8 @@ fn evidence_is_appraised_and_a_key_fault_gives_the_ticket_back(
         ("", LIST, 1, Ok((no_form, 0, false))),
         (QUOTE, LIST, 1, Err((7, DropWhy::Keys))),
     ] {
-        let found = appraised::<Brand>(rt.alloc(), quote, list, fault, Blank::new(1))?;
+        let evidence = evidence(rt.alloc(), quote, list)?;
+        let found = appraised::<Brand>(rt.alloc(), evidence, fault, Blank::new(1))?;
         assert!(rt; found == wanted);
     }
     Ok(())

@@ -107,7 +107,7 @@ const CASES: &[Case<'static>] = &[
     },
     PLAIN,
     Case {
-        script: &["\n\nnone\nnow 7\n"],
+        script: &["\n\nnone\nnow 8\n"],
         printed: &["fault line 3\n"],
         status: 3,
         ..PLAIN

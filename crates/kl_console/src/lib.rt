@@ -9,3 +9,6 @@ mod program;
 mod turns;
 
 pub use program::{is_only_word, run, run_counted, run_kept};
+
+#[cfg(test)]
+mod tests;

@@ -3,3 +3,8 @@ pub mod Replied
 pub mod Commands
 pub mod Digits
 pub mod Obeying
+pub mod OneNaming
+pub mod OneCall
+pub mod OneReply
+pub mod GoingOn
+pub mod OneStep

@@ -10,4 +10,5 @@ pub mod States
 pub mod Session
 pub mod Closing
 pub mod Stopped
+pub mod Unique
 pub mod Inner

@@ -15,10 +15,12 @@ mod session;
 mod stop;
 mod texts;
 mod tickets;
+mod unique;
 
 pub use naming::NoTerms;
 pub use session::Session;
 pub use stop::Stop;
+pub use unique::{later_moments, single_steps};
 
 #[cfg(test)]
 mod tests;

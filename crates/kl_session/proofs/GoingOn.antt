@@ -1,0 +1,230 @@
+-- From one command to the next the objects of the outside go on as they were, and the history grows.
+use Rattle.std.proofs.Common.{◌≡◌, ◌⊎◌, ℕ, ◌≤◌, Bool, false, List, [], ◌∷◌, ◌++◌, length, Option, Some, None, inl, inr, refl, sym, ap, ◌∙◌, subst, arith, append-nil, append_assoc}
+use Rattle.std.specs.Io.KnownBytes.{Consumes}
+use Rattle.std.specs.Prelude.{All}
+use Rattle.std.proofs.lemmas.Option.{same_Some, none-some}
+use Rattle.std.proofs.lemmas.List.Elements.{All-take}
+use Rattle.std.proofs.Math.Seq.{take-append_seam}
+use Rattle.kl_io.specs.Told.{WordsTold}
+use Rattle.kl_keys.specs.Told.{KeysTold}
+use Rattle.kl_quote.specs.declared.evidence.Evidence.{Evidence}
+use Rattle.kl_states.specs.declared.verdict.InvalidCause.{InvalidCause}
+use Rattle.kl_states.specs.declared.verdict.Verdict.TheVariants.{Invalid}
+use Rattle.kl_appraise.specs.Terms.{TermsFields}
+use Rattle.kl_appraise.specs.Asking.{Asked}
+use Rattle.kl_appraise.specs.Kept.{from_of}
+use Rattle.kl_appraise.specs.Evidence.{Check, check_under}
+use Rattle.kl_appraise.specs.QuoteRules.{QuoteRules, IsUnasked, IsSoundQuote}
+use Rattle.kl_appraise.specs.ListRules.{Case, check_of}
+use Rattle.kl_appraise.specs.declared.judged.Outcome.{Outcome as Finding}
+use Rattle.kl_appraise.specs.declared.judged.Outcome.TheVariants.{Verdict as Judged}
+use Rattle.kl_appraise.specs.Outcome.{IsOutcome}
+use Rattle.kl_incr.specs.Kept.{TicketFields}
+use Rattle.kl_script.specs.Commands.{ReplyFields, CommandFields, nothing, add, replace, reactivate, stop, remove, now, begin, reply, state}
+use Rattle.kl_history.specs.declared.record.Record.{Record}
+use Rattle.kl_history.specs.Records.{History, Past, past_of, Start, terms_of}
+use Rattle.kl_history.specs.Legal.{IsLegalPast, IsCaseOf}
+use Rattle.kl_core.specs.Tickets.{IsOpenTicket}
+use Rattle.kl_session.specs.declared.stop.Stop.TheVariants.{NoNonce}
+use Rattle.kl_session.specs.Outside.{Outside}
+use Rattle.kl_session.specs.Calls.{SessionFields, past as past_at, Answered}
+use Rattle.kl_session.specs.Polls.{Draws, HasNonce}
+use Rattle.kl_session.specs.Replies.{Appraisal, Finds, Unanswered, Short, IsFinding, Went, DoesReply}
+use Rattle.kl_session.specs.Stopped.{DrawsNone, IsStopped}
+use Rattle.kl_session.specs.Session.{Does, Follows}
+use Rattle.kl_session.specs.Unique.{is_short, LacksNothing, GoesOn, Grows}
+use Rattle.kl_session.proofs.Opened.{behind}
+
+-- ---- what was known of the words stays known
+
+pub consumed : (w : List ℕ) (old new : Option (List ℕ)) (drawn : List ℕ) → old ≡ Some w → Consumes old new drawn
+    → (v : List ℕ) × (new ≡ Some v) × (w ≡ drawn ++ v)
+consumed w None new drawn is h = absurd (none-some w is)
+consumed w (Some u) None drawn is h = absurd h
+consumed w (Some u) (Some v) drawn is h = (v, refl, sym (same_Some u w is) ∙ h)
+
+pub same_on : (o o' : Outside) → o' ≡ o → GoesOn o o'
+same_on o o' same = record {
+  related = ap (λ (z : Outside). z.keys.relations) same;
+  keys = omega (arith, ap (λ (z : Outside). z.keys.calls.faults) same);
+  drawn = omega (arith, ap (λ (z : Outside). z.words.calls.faults) same);
+  left = λ w is. (w, ap (λ (z : Outside). z.words.left) same ∙ is);
+}
+
+pub and_on : (o then o' : Outside) → GoesOn o then → GoesOn then o' → GoesOn o o'
+and_on o then o' f g = record {
+  related = g.related ∙ f.related;
+  keys = omega (arith, f.keys, g.keys);
+  drawn = omega (arith, f.drawn, g.drawn);
+  left = λ w is. let known = f.left w is in g.left known.0 known.1;
+}
+
+draws_on : (o o' : Outside) (nonce : List ℕ) → Draws o o' nonce → GoesOn o o'
+draws_on o o' nonce d = record {
+  related = ap (λ (k : KeysTold). k.relations) d.keys;
+  keys = omega (arith, ap (λ (k : KeysTold). k.calls.faults) d.keys);
+  drawn = d.once.later;
+  left = λ w is. let known = consumed w o.words.left o'.words.left d.drawn is d.taken in (known.0, known.1);
+}
+
+nonce_on : (o o' : Outside) (named : Option (List ℕ)) (nonce : List ℕ) → HasNonce o o' named nonce → GoesOn o o'
+nonce_on o o' (Some n) nonce h = same_on o o' h.0
+nonce_on o o' None nonce h = draws_on o o' nonce h
+
+none_on : (o o' : Outside) → DrawsNone o o' → GoesOn o o'
+none_on o o' d = record {
+  related = ap (λ (k : KeysTold). k.relations) d.keys;
+  keys = omega (arith, ap (λ (k : KeysTold). k.calls.faults) d.keys);
+  drawn = elim d.cause [ inl met ↦ met.later | inr few ↦ few.1.later ];
+  left = λ w is. (w, d.left ∙ is);
+}
+
+-- ---- the key object is asked, or is not: the rule that decides says which
+
+not_unread : (k : Check) → IsSoundQuote k → ¬ (IsUnasked k)
+not_unread k sound (why, inl form) = sound why (inl form)
+not_unread k sound (why, inr (no_form, inl bank)) = sound why (inr (no_form, inl bank))
+not_unread k sound (why, inr (no_form, inr (no_bank, attest))) = sound why (inr (no_form, inr (no_bank, inl attest)))
+
+by_rules : (k : Check) (why : InvalidCause) → QuoteRules k why → IsUnasked k ⊎ (¬ (IsUnasked k))
+by_rules k why (inl form) = inl (why, inl form)
+by_rules k why (inr (no_form, inl bank)) = inl (why, inr (no_form, inl bank))
+by_rules k why (inr (no_form, inr (no_bank, inl attest))) = inl (why, inr (no_form, inr (no_bank, attest)))
+by_rules k why (inr (no_form, inr (no_bank, inr (no_attest, rest)))) = inr (λ (unread : IsUnasked k). elim unread.1 [
+  | inl form ↦ no_form unread.0 form
+  | inr (_, inl bank) ↦ no_bank unread.0 bank
+  | inr (_, inr (_, attest)) ↦ no_attest unread.0 attest
+])
+
+is_decided : (c : Case) (found : Finding) → IsOutcome c found → IsUnasked (check_of c) ⊎ (¬ (IsUnasked (check_of c)))
+is_decided c found (inl (why, rule, _)) = by_rules (check_of c) why rule
+is_decided c found (inr (none, _)) = inr (not_unread (check_of c) (λ why rule. none (Judged (Invalid why)) (why, rule, refl)))
+
+-- what a reply to a ticket's poll is appraised as looks at the quote as the ticket says
+unasked_by : TermsFields → List ℕ → Evidence → Type 0
+unasked_by t n e = IsUnasked (check_under t n e false)
+
+of_case : (past : Past) (t : TicketFields) (e : Evidence) (signed : Bool) (c : Case) → IsOpenTicket past t → IsCaseOf past t.poll e signed c
+    → unasked_by c.terms c.nonce c.evidence ≡ unasked_by t.terms t.nonce e
+of_case past t e signed c (_, given) x =
+    let named : Start = record { agent = t.agent; generation = t.generation; nonce = t.nonce; at = given.at; from = from_of t.kept } in
+    let start : x.started ≡ named = same_Some x.started named (sym x.began ∙ given.began) in
+    let terms = same_Some c.terms t.terms (sym x.terms ∙ ap (λ (s : Start). terms_of past s.generation) start ∙ given.terms) in
+    let nonce = x.nonce ∙ ap (λ (s : Start). s.nonce) start in
+    ap (λ u. unasked_by u c.nonce c.evidence) terms ∙ ap (λ n. unasked_by t.terms n c.evidence) nonce ∙ ap (unasked_by t.terms t.nonce) x.evidence
+
+-- the key object keeps its relations, and its count of faults does not fall
+record KeysOn (k k' : KeysTold) : Type 0 where
+  pub related : k'.relations ≡ k.relations
+  pub later : k.calls.faults ≤ k'.calls.faults
+
+spared : (k k' : KeysTold) → k' ≡ k → KeysOn k k'
+spared k k' same = record { related = ap (λ (x : KeysTold). x.relations) same; later = omega (arith, ap (λ (x : KeysTold). x.calls.faults) same) }
+
+asked : (k k' : KeysTold) (ak quote : List ℕ) (answer : Option Bool) → Asked k k' ak quote answer → KeysOn k k'
+asked k k' ak quote answer a = record { related = a.relations; later = a.counted.later }
+
+finding_on : (o o' : Outside) (past : Past) (t : TicketFields) (e : Evidence) (signed : Bool) (found : Finding)
+    → IsOpenTicket past t → IsFinding o o' past t e signed found → KeysOn o.keys o'.keys
+unfolding unasked_by
+finding_on o o' past t e signed found opened f =
+    let same = of_case past t e signed f.case opened f.poll_case in
+    elim (is_decided f.case found f.outcome) [
+      | inl un ↦ spared o.keys o'.keys (f.spared (subst (λ (X : Type 0). X) same un))
+      | inr due ↦ asked o.keys o'.keys t.terms.ak e.quote (Some signed) (f.asked (subst (λ (X : Type 0). ¬ X) same due))
+    ]
+
+went_on : (o o' : Outside) (past : Past) (t : TicketFields) (e : Evidence) (a : Appraisal) → IsOpenTicket past t → Went o o' past t e a
+    → KeysOn o.keys o'.keys
+went_on o o' past t e (Finds signed found) opened went = finding_on o o' past t e signed found opened went
+went_on o o' past t e Unanswered opened (due, met, _) = asked o.keys o'.keys t.terms.ak e.quote None met
+went_on o o' past t e Short opened (inl same, _, _) = spared o.keys o'.keys same
+went_on o o' past t e Short opened (inr (due, met), _, _) = asked o.keys o'.keys t.terms.ak e.quote met.0 met.1
+
+reply_on : (o o' : Outside) (r : ReplyFields) (s s' : SessionFields) (line : List ℕ) → DoesReply o o' r s s' line → GoesOn o o'
+reply_on o o' r s s' line (inr none) = same_on o o' none.1
+reply_on o o' r s s' line (inl f) =
+    let on = went_on o o' (past_at s) f.ticket f.evidence f.closes.appraisal f.opened f.closes.went in
+    record {
+      related = on.related;
+      keys = on.later;
+      drawn = omega (arith, ap (λ (w : WordsTold). w.calls.faults) f.closes.undrawn);
+      left = λ w is. (w, ap (λ (x : WordsTold). x.left) f.closes.undrawn ∙ is);
+    }
+
+-- ---- a command, and several
+
+pub does_on : (o o' : Outside) (s : SessionFields) (c : CommandFields) (s' : SessionFields) (line : List ℕ) → Does o o' s c s' line → GoesOn o o'
+unfolding Does
+does_on o o' s nothing s' line h = same_on o o' h.0
+does_on o o' s (add a) s' line h = same_on o o' h.0
+does_on o o' s (replace r) s' line h = same_on o o' h.0
+does_on o o' s (reactivate a) s' line h = same_on o o' h.0
+does_on o o' s (stop a) s' line h = same_on o o' h.0
+does_on o o' s (remove a) s' line h = same_on o o' h.0
+does_on o o' s (now t) s' line h = same_on o o' h.0
+does_on o o' s (begin b) s' line h = nonce_on o o' b.nonce h.0 h.1
+does_on o o' s (reply r) s' line h = reply_on o o' r s s' line h
+does_on o o' s (state a) s' line h = same_on o o' h.0
+
+pub follows_on : (o o' : Outside) (s : SessionFields) (commands : List CommandFields) (lines : List (List ℕ)) (last : SessionFields)
+    → Follows o o' s commands lines last → GoesOn o o'
+follows_on o o' s [] [] last h = same_on o o' h.0
+follows_on o o' s [] (l ∷ lines) last h = absurd h
+follows_on o o' s (c ∷ commands) [] last h = absurd h
+follows_on o o' s (c ∷ commands) (l ∷ lines) last (then, next, does, follows) =
+    and_on o then o' (does_on o then s c next l does) (follows_on then o' next commands lines last follows)
+
+pub dry_on : (o o' : Outside) (s : SessionFields) (c : CommandFields) (s' : SessionFields) → IsStopped NoNonce o o' s c s' → GoesOn o o'
+dry_on o o' s (begin b) s' h = none_on o o' h.1.1
+dry_on o o' s _ s' h = absurd h.1
+
+-- ---- the history grows
+
+as_it_was : (s s' : SessionFields) → s'.history ≡ s.history → Grows s s'
+as_it_was s s' same = ([], same ∙ sym (append-nil s.history))
+
+by_call : {A : Type 0} {Answers : A → Past → Type 0} {makes : A → Past → List Record} {says : A → Option (List ℕ)} (s s' : SessionFields) (line : List ℕ)
+    → Answered Answers makes says s s' line → Grows s s'
+by_call {makes = makes} s s' line h = (makes h.answer (past_at s), ap (λ (z : SessionFields). z.history) h.after)
+
+pub does_grow : (o o' : Outside) (s : SessionFields) (c : CommandFields) (s' : SessionFields) (line : List ℕ) → Does o o' s c s' line → Grows s s'
+unfolding Does
+does_grow o o' s nothing s' line h = as_it_was s s' (ap (λ (z : SessionFields). z.history) h.1)
+does_grow o o' s (add a) s' line (_, inl (t, named, are, h)) = by_call s s' line h
+does_grow o o' s (add a) s' line (_, inr (why, none, h)) = as_it_was s s' (ap (λ (z : SessionFields). z.history) h.0)
+does_grow o o' s (replace r) s' line (_, inl (p, is, h)) = by_call s s' line h
+does_grow o o' s (replace r) s' line (_, inr (why, none, h)) = as_it_was s s' (ap (λ (z : SessionFields). z.history) h.0)
+does_grow o o' s (reactivate a) s' line h = by_call s s' line h.1
+does_grow o o' s (stop a) s' line h = by_call s s' line h.1
+does_grow o o' s (remove a) s' line h = by_call s s' line h.1
+does_grow o o' s (now t) s' line h = as_it_was s s' (ap (λ (z : SessionFields). z.history) h.1)
+does_grow o o' s (begin b) s' line h = by_call s s' line h.2
+does_grow o o' s (reply r) s' line (inl f) = (f.made ∷ [], ap (λ (z : SessionFields). z.history) f.after)
+does_grow o o' s (reply r) s' line (inr none) = as_it_was s s' (ap (λ (z : SessionFields). z.history) none.2)
+does_grow o o' s (state a) s' line h = as_it_was s s' (ap (λ (z : SessionFields). z.history) h.1)
+
+pub follows_grow : (o o' : Outside) (s : SessionFields) (commands : List CommandFields) (lines : List (List ℕ)) (last : SessionFields)
+    → Follows o o' s commands lines last → Grows s last
+follows_grow o o' s [] [] last h = as_it_was s last (ap (λ (z : SessionFields). z.history) h.1)
+follows_grow o o' s [] (l ∷ lines) last h = absurd h
+follows_grow o o' s (c ∷ commands) [] last h = absurd h
+follows_grow o o' s (c ∷ commands) (l ∷ lines) last (then, next, does, follows) =
+    let first = does_grow o then s c next l does in
+    let rest = follows_grow then o' next commands lines last follows in
+    (first.0 ++ rest.0, rest.1 ∙ ap (λ H. H ++ rest.0) first.1 ∙ append_assoc s.history first.0 rest.0)
+
+-- a beginning of a legal history is legal, and where nothing was wanting later nothing was before
+legal_before : (newer past : Past) → IsLegalPast (newer ++ past) → IsLegalPast past
+legal_before [] past legal = legal
+legal_before (r ∷ newer) past legal = legal_before newer past legal.0
+
+pub lacked_nothing : (H made : History) → LacksNothing (H ++ made) → LacksNothing H
+lacked_nothing H made l = record {
+  legal = legal_before (past_of made) (past_of H) (subst IsLegalPast (behind H made) l.legal);
+  ample = subst (λ (G : History). All (λ r. is_short r ≡ false) G) (take-append_seam H made)
+      (All-take (λ r. is_short r ≡ false) (length H) (H ++ made) l.ample);
+}
+
+pub lacked_before : (s s' : SessionFields) → Grows s s' → LacksNothing s'.history → LacksNothing s.history
+lacked_before s s' (made, grown) l = lacked_nothing s.history made (subst LacksNothing grown l)

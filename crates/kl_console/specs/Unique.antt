@@ -1,17 +1,10 @@
 -- What a script prints.
-use Rattle.std.specs.Prelude.{◌≡◌, ◌⊎◌, ℕ, Bool, true, false, List, ◌++◌, All, Some}
+use Rattle.std.specs.Prelude.{◌≡◌, ◌⊎◌, ℕ, false, List, ◌++◌, All, Some}
 use Rattle.kl_io.specs.Calls.{Rose}
 use Rattle.kl_keys.specs.Relations.{Relations}
-use Rattle.kl_states.specs.declared.outcome.DropWhy.TheVariants as why
-use Rattle.kl_history.specs.declared.record.Record.{Record}
-use Rattle.kl_history.specs.declared.record.Record.TheVariants.{Dropped}
 use Rattle.kl_history.specs.Records.{History}
+use Rattle.kl_session.specs.Unique.{is_short}
 use Rattle.kl_console.specs.Run.{Moment, IsDone, IsFaulty, IsDry, IsOver}
-
--- the record drops a poll for want of memory
-abbrev pub is_short : Record → Bool
-is_short (Dropped p why.Memory) = true
-is_short _ = false
 
 -- A run ended with this status, 0, 3, 6 or 8, and dropped no poll for want of memory: its source told these bytes, all that it had
 -- left; its key object told that it answers by these relations, and its words that these bytes are left; their counts of faults

@@ -216,9 +216,6 @@ wrote_so held written puts (Some xs) (Some ys) is also h =
     append_cancel_left held written puts (sym (same_Some ys (held ++ written) also) ∙ h ∙ ap (λ (l : List ℕ). l ++ puts) (same_Some xs held is))
 
 module _ {script : List ℕ} {relations : Relations} {words : List ℕ} {status : ℕ} {written : List ℕ} (p : Prints script relations words status written) where
-  faultless : IsFaultless relations words p.before.outside p.after.outside
-  faultless = record { related = p.answers; left = p.gives; keys = p.faultless_keys; drawn = p.faultless_words }
-
   -- the session of a run lacked nothing, since its history is the front of the one at the end
   lacked : (s : SessionFields) → IsHistory s p.history → LacksNothing s.history
   lacked s is =
@@ -231,7 +228,7 @@ module _ {script : List ℕ} {relations : Relations} {words : List ℕ} {status 
 
     -- the words that are left behind the lines
     left_then : (left : List ℕ) × (then.words.left ≡ Some left)
-    left_then = going.left words p.gives
+    left_then = going.left words p.faultless.left
 
     whole_by : (bytes text : List ℕ) → LacksNothing s.last.history → script ≡ ended s.lines ++ bytes → written ≡ concat s.texts ++ text
         → RestEnds relations left_then.0 s.last (length s.lines + 1) (length (ended s.lines)) bytes status text → Whole script relations words status written
@@ -247,7 +244,7 @@ module _ {script : List ℕ} {relations : Relations} {words : List ℕ} {status 
       runs = record {
         before = p.before.outside;
         after = then;
-        faultless = front_faultless relations words p.before.outside then p.after.outside faultless on;
+        faultless = front_faultless relations words p.before.outside then p.after.outside p.faultless on;
         follows = s.follows;
         unwanting = unwanting;
         left = left_then.1;
@@ -261,7 +258,7 @@ module _ {script : List ℕ} {relations : Relations} {words : List ℕ} {status 
 
     -- from there on
     thereon : IsFaultless relations left_then.0 then p.after.outside
-    thereon = rest_faultless relations words left_then.0 p.before.outside then p.after.outside faultless going left_then.1
+    thereon = rest_faultless relations words left_then.0 p.before.outside then p.after.outside p.faultless going left_then.1
 
     -- the words that are left at the end
     left_last : (rest : List ℕ) × (p.after.outside.words.left ≡ Some rest)

@@ -1,9 +1,8 @@
 -- What a script prints.
 use Rattle.std.specs.Prelude.{◌≡◌, ◌⊎◌, ℕ, false, List, ◌++◌, All, Some}
-use Rattle.kl_io.specs.Calls.{Rose}
 use Rattle.kl_keys.specs.Relations.{Relations}
 use Rattle.kl_history.specs.Records.{History}
-use Rattle.kl_session.specs.Unique.{is_short}
+use Rattle.kl_session.specs.Unique.{is_short, IsFaultless}
 use Rattle.kl_console.specs.Run.{Moment, IsDone, IsFaulty, IsDry, IsOver}
 
 -- A run ended with this status, 0, 3, 6 or 8, and dropped no poll for want of memory: its source told these bytes, all that it had
@@ -14,10 +13,7 @@ pub record Prints (script : List ℕ) (relations : Relations) (words : List ℕ)
   pub after : Moment
   pub history : History
   pub whole : before.script.left ≡ Some script
-  pub answers : before.outside.keys.relations ≡ Some relations
-  pub gives : before.outside.words.left ≡ Some words
-  pub faultless_keys : ¬ (Rose before.outside.keys.calls.faults after.outside.keys.calls.faults)
-  pub faultless_words : ¬ (Rose before.outside.words.calls.faults after.outside.words.calls.faults)
+  pub faultless : IsFaultless relations words before.outside after.outside
   pub ample : All (λ r. is_short r ≡ false) history
   pub held : List ℕ
   pub held_before : before.out.held ≡ Some held

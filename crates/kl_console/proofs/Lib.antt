@@ -6,3 +6,5 @@ pub mod Following
 pub mod Playing
 pub mod Statuses
 pub mod Words
+pub mod Coming
+pub mod OneOutput

@@ -1,17 +1,9 @@
 -- What a script prints.
-use Rattle.std.specs.Prelude.{◌≡◌, ◌⊎◌, ℕ, Bool, true, false, List, ◌++◌, All, Some}
-use Rattle.kl_io.specs.Calls.{Rose}
+use Rattle.std.specs.Prelude.{◌≡◌, ◌⊎◌, ℕ, false, List, ◌++◌, All, Some}
 use Rattle.kl_keys.specs.Relations.{Relations}
-use Rattle.kl_states.specs.declared.outcome.DropWhy.TheVariants as why
-use Rattle.kl_history.specs.declared.record.Record.{Record}
-use Rattle.kl_history.specs.declared.record.Record.TheVariants.{Dropped}
 use Rattle.kl_history.specs.Records.{History}
+use Rattle.kl_session.specs.Unique.{is_short, IsFaultless}
 use Rattle.kl_console.specs.Run.{Moment, IsDone, IsFaulty, IsDry, IsOver}
-
--- the record drops a poll for want of memory
-abbrev pub is_short : Record → Bool
-is_short (Dropped p why.Memory) = true
-is_short _ = false
 
 -- A run ended with this status, 0, 3, 6 or 8, and dropped no poll for want of memory: its source told these bytes, all that it had
 -- left; its key object told that it answers by these relations, and its words that these bytes are left; their counts of faults
@@ -21,10 +13,7 @@ pub record Prints (script : List ℕ) (relations : Relations) (words : List ℕ)
   pub after : Moment
   pub history : History
   pub whole : before.script.left ≡ Some script
-  pub answers : before.outside.keys.relations ≡ Some relations
-  pub gives : before.outside.words.left ≡ Some words
-  pub faultless_keys : ¬ (Rose before.outside.keys.calls.faults after.outside.keys.calls.faults)
-  pub faultless_words : ¬ (Rose before.outside.words.calls.faults after.outside.words.calls.faults)
+  pub faultless : IsFaultless relations words before.outside after.outside
   pub ample : All (λ r. is_short r ≡ false) history
   pub held : List ℕ
   pub held_before : before.out.held ≡ Some held

@@ -7,8 +7,10 @@ mod line_reader;
 mod printing;
 mod program;
 mod turns;
+mod unique;
 
 pub use program::{is_only_word, run, run_counted, run_kept};
+pub use unique::one_output;
 
 #[cfg(test)]
 mod tests;

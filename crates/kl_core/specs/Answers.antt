@@ -14,10 +14,10 @@ abbrev pub IsAmpleWith : {A B : Type 0} → Result A (Refusal × B) → Type 0
 IsAmpleWith (Ok a) = ⊤
 IsAmpleWith (Err e) = e.0 ≢ Memory
 
--- no answer is want of memory
+-- any answer, where none is want of memory
 abbrev pub IsAny : {A : Type 0} → A → Type 0
 IsAny a = ⊤
 
--- of the answers of this kind that a call may give behind these records, one at most is
+-- behind these records a call gives one answer of this kind at most
 abbrev pub IsOneAnswer : {A : Type 0} → (A → Type 0) → (A → Past → Type 0) → Past → Type 0
 IsOneAnswer {A} IsOfKind Answers past = (x y : A) → Answers x past → Answers y past → IsOfKind x → IsOfKind y → x ≡ y

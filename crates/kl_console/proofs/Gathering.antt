@@ -1,14 +1,13 @@
 -- Bytes that a source gives, one read after another.
-use Rattle.std.proofs.Common.{◌≡◌, ◌≢◌, List, ℕ, Bool, true, false, ◌<◌, ◌≤◌, ◌+◌, ◌∷◌, ◌++◌, [], length, Option, sym, ap, ◌∙◌, append_assoc, subst, Result, Ok, Err, inl, inr, refl, arith, length-append}
+use Rattle.std.proofs.Common.{◌≡◌, ◌≢◌, List, ℕ, Bool, true, false, ◌<◌, ◌≤◌, ◌+◌, ◌∷◌, ◌++◌, [], length, Option, sym, ap, ◌∙◌, append_assoc, subst, Result, Ok, inl, inr, refl, arith, length-append}
 use Rattle.std.proofs.KnownBytes.{Consumes-trans}
 use Rattle.std.proofs.lemmas.List.{append-nil}
 use Rattle.std.specs.Io.KnownBytes.{Consumes, IsAtEnd}
 use Rattle.kl_io.specs.Told.{SourceTold}
 use Rattle.kl_entry.specs.Lines.{HasNo}
 use Rattle.kl_console.specs.declared.line_reader.Found.{Found}
-use Rattle.kl_console.specs.declared.line_reader.Found.TheVariants.{Line, Last, TooLong}
+use Rattle.kl_console.specs.declared.line_reader.Found.TheVariants.{Last, TooLong}
 use Rattle.kl_console.specs.declared.line_reader.ReadError.{ReadError}
-use Rattle.kl_console.specs.declared.line_reader.ReadError.TheVariants.{Failed, Memory}
 use Rattle.kl_console.specs.Lines.{line_limit, script_limit, IsLine, IsOverLimit}
 use Rattle.kl_console.specs.Inner.Reading.{Finds, Fits, IsOver, Reading, ReadsLine, held_bytes}
 
@@ -96,26 +95,6 @@ reads_over before now initial r p whole h held kept none over =
     let b = h.bytes in
     (b.0, b.1, is_over_limit whole initial.passed (initial.ahead ++ b.0) p (held ∙ sym b.2) (kept ∙ h.passed) (none h.whole) over)
 
--- its newline was read
-pub reads_whole : (before now : SourceTold) (initial r p new : Reading) → Gathered before now initial r → p.line ++ 10 ∷ p.ahead ≡ r.line ++ r.ahead → p.passed ≡ r.passed
-    → (HasNo 10 r.line → HasNo 10 p.line) → Fits true p → new ≡ record { line = p.line; ahead = p.ahead; passed = p.passed + length p.line + 1 }
-    → ReadsLine before.left now.left initial new (Ok Line)
-reads_whole before now initial r p new h held kept none fits is =
-    let b = h.bytes in
-    let same = kept ∙ h.passed in
-    subst (λ (q : Reading). ReadsLine before.left now.left initial q (Ok Line)) (sym is) (
-      b.0,
-      b.1,
-      (
-        record {
-          parts = b.2 ∙ sym held;
-          is_line = record { whole = none h.whole; short = fits.0 };
-          fits = subst (λ (n : ℕ). n + length p.line + 1 ≤ script_limit) same fits.1;
-        },
-        ap (λ (n : ℕ). n + length p.line + 1) same,
-      ),
-    )
-
 some_line : (line more : List ℕ) → 0 < length more → line ++ more ≢ []
 some_line line more some none = omega (arith, some, ap length none, length-append line more)
 
@@ -138,20 +117,3 @@ reads_last before now after initial r p f h m a empty end =
         },
       ),
     )
-
--- the source gave no more
-pub reads_stopped : (before now after : SourceTold) (initial r p f : Reading) (result : Result Found ReadError) (e : ReadError) → result ≡ Err e → Gathered before now initial r → Moved r p → Asked now after p f
-    → f.ahead ≡ [] → ReadsLine before.left after.left initial f result
-reads_stopped before now after initial r p f result Memory is h m a empty =
-    let b = asked_bytes before now after initial r p f h m a in
-    subst (λ (x : Result Found ReadError). ReadsLine before.left after.left initial f x) (sym is) (b.0, b.1, tt)
-reads_stopped before now after initial r p f result Failed is h m a empty =
-    let b = asked_bytes before now after initial r p f h m a in
-    let all = b.2 ∙ ap (λ (t : List ℕ). f.line ++ t) empty ∙ append-nil f.line in
-    subst (λ (x : Result Found ReadError). ReadsLine before.left after.left initial f x) (sym is)
-    (b.0, b.1, subst IsLine (sym all) (asked_line before now after initial r p f h m a))
-
--- memory ran out
-pub reads_short : (before now : SourceTold) (initial r f : Reading) (result : Result Found ReadError) → result ≡ Err Memory → Gathered before now initial r → ReadsLine before.left now.left initial f result
-reads_short before now initial r f result is h =
-    subst (λ (x : Result Found ReadError). ReadsLine before.left now.left initial f x) (sym is) (h.bytes.0, h.bytes.1, tt)

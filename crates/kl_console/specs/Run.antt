@@ -74,7 +74,8 @@ IsBroken before after H =
     × IsLine part × IsHistory s.last H
 
 -- behind the lines that were executed comes one whose command was not answered
-pub record StopsNext {o then : Outside} (s : Executed o then) (why : Stop) (o' : Outside) (left : Option (List ℕ)) (bytes : List ℕ) (next : SessionFields) : Type 0 where
+pub record StopsNext {o then : Outside} (s : Executed o then) (why : Stop) (o' : Outside) (left : Option (List ℕ)) (bytes : List ℕ)
+    (next : SessionFields) : Type 0 where
   pub line : List ℕ
   pub next_line : Comes (offset_of s) left bytes line
   pub command : CommandFields

@@ -154,7 +154,8 @@ impl LineReader {
 
     /// Sees that bytes are ahead, unless the source is at its end. The answer is whether there are any.
     fn prime<S: Source>(&mut self, source: &mut S) -> Result<bool, ReadError>
-        ensures bytes { (consumed : List ℕ) × Consumes (S.told source.old).left (S.told source.new).left consumed × (self.new.ahead ≡ self.old.ahead ++ consumed) }
+        ensures bytes { (consumed : List ℕ) × Consumes (S.told source.old).left (S.told source.new).left consumed
+            × (self.new.ahead ≡ self.old.ahead ++ consumed) }
         ensures line { self.new.line ≡ self.old.line }
         ensures passed { self.new.passed ≡ self.old.passed }
         ensures some { IfOk result (λ some. some ≡ true → 0 < length self.new.ahead) }

@@ -50,31 +50,38 @@ pub fn run<S: Source, K: Sink, Y: Keys, N: Words, L: Ledger>(
     steps: &mut Steps<L>,
 ) -> u8
     // 0: all of the script was read, each line was executed, and its text was written by one put, or by none where it is empty.
-    ensures done { result ≡ 0 → (H : History) × IsDone (moment (S.told script.old) (K.told out.old) (outside (Y.told keys.old) (N.told nonces.old) steps.old))
+    ensures done { result ≡ 0 → (H : History) × IsDone
+        (moment (S.told script.old) (K.told out.old) (outside (Y.told keys.old) (N.told nonces.old) steps.old))
         (moment (S.told script.new) (K.told out.new) (outside (Y.told keys.new) (N.told nonces.new) steps.new)) H }
     // 2: the words are other ones.
     ensures usage { (result ≡ 2) ↔ (map string_bytes words.now ≢ codes "run" ∷ []) }
     // 3: the texts of the lines before the first that spells no command were written, and then which that is, by one put.
-    ensures fault { result ≡ 3 → (H : History) × IsFaulty (moment (S.told script.old) (K.told out.old) (outside (Y.told keys.old) (N.told nonces.old) steps.old))
+    ensures fault { result ≡ 3 → (H : History) × IsFaulty
+        (moment (S.told script.old) (K.told out.old) (outside (Y.told keys.old) (N.told nonces.old) steps.old))
         (moment (S.told script.new) (K.told out.new) (outside (Y.told keys.new) (N.told nonces.new) steps.new)) H }
     // 4: the texts of the lines before were written. A line that was read in part was not executed.
-    ensures read_fault { result ≡ 4 → (H : History) × IsBroken (moment (S.told script.old) (K.told out.old) (outside (Y.told keys.old) (N.told nonces.old) steps.old))
+    ensures read_fault { result ≡ 4 → (H : History) × IsBroken
+        (moment (S.told script.old) (K.told out.old) (outside (Y.told keys.old) (N.told nonces.old) steps.old))
         (moment (S.told script.new) (K.told out.new) (outside (Y.told keys.new) (N.told nonces.new) steps.new)) H }
     // The last read of the script met a fault at 4, and no other did.
     ensures read_cause { FailsAtLast (S.told script.old).calls (S.told script.new).calls (result ≡ 4) }
     // 5: the texts of the lines before were written, and by the last put a front of what was to be printed next.
-    ensures write_fault { result ≡ 5 → (H : History) × IsCutOff (moment (S.told script.old) (K.told out.old) (outside (Y.told keys.old) (N.told nonces.old) steps.old))
+    ensures write_fault { result ≡ 5 → (H : History) × IsCutOff
+        (moment (S.told script.old) (K.told out.old) (outside (Y.told keys.old) (N.told nonces.old) steps.old))
         (moment (S.told script.new) (K.told out.new) (outside (Y.told keys.new) (N.told nonces.new) steps.new)) H }
     // The last put met a fault at 5, and no other did.
     ensures write_cause { FailsAtLast (K.told out.old).calls (K.told out.new).calls (result ≡ 5) }
     // 6: the texts of the lines before were written; the next begins a poll whose nonce could not be drawn.
-    ensures nonce_fault { result ≡ 6 → (H : History) × IsDry (moment (S.told script.old) (K.told out.old) (outside (Y.told keys.old) (N.told nonces.old) steps.old))
+    ensures nonce_fault { result ≡ 6 → (H : History) × IsDry
+        (moment (S.told script.old) (K.told out.old) (outside (Y.told keys.old) (N.told nonces.old) steps.old))
         (moment (S.told script.new) (K.told out.new) (outside (Y.told keys.new) (N.told nonces.new) steps.new)) H }
     // 8: the texts of the lines before were written, and then which line is too long, or takes the script past its limit.
-    ensures over { result ≡ 8 → (H : History) × IsOver (moment (S.told script.old) (K.told out.old) (outside (Y.told keys.old) (N.told nonces.old) steps.old))
+    ensures over { result ≡ 8 → (H : History) × IsOver
+        (moment (S.told script.old) (K.told out.old) (outside (Y.told keys.old) (N.told nonces.old) steps.old))
         (moment (S.told script.new) (K.told out.new) (outside (Y.told keys.new) (N.told nonces.new) steps.new)) H }
     // 70: memory ran out; the texts of the lines before were written, each whole.
-    ensures memory { result ≡ 70 → (H : History) × IsShort (moment (S.told script.old) (K.told out.old) (outside (Y.told keys.old) (N.told nonces.old) steps.old))
+    ensures memory { result ≡ 70 → (H : History) × IsShort
+        (moment (S.told script.old) (K.told out.old) (outside (Y.told keys.old) (N.told nonces.old) steps.old))
         (moment (S.told script.new) (K.told out.new) (outside (Y.told keys.new) (N.told nonces.new) steps.new)) H }
     // There are no other numbers.
     ensures statuses { IsStatus result }
@@ -103,6 +110,7 @@ pub fn run_kept<S: Source, K: Sink, Y: Keys, N: Words, L: Ledger>(
     ensures ends { EndsAs (moment (S.told script.old) (K.told out.old) (outside (Y.told keys.old) (N.told nonces.old) steps.old))
         (moment (S.told script.new) (K.told out.new) (outside (Y.told keys.new) (N.told nonces.new) steps.new)) result.0 (history_of result.1) }
     ensures none { result.1 ≡ None → (result.0 ≡ 2) ⊎ (result.0 ≡ 70) }
+    ensures unbegun { result.0 ≡ 2 → result.1 ≡ None }
     ensures usage { (result.0 ≡ 2) ↔ (map string_bytes words.now ≢ codes "run" ∷ []) }
     ensures statuses { IsStatus result.0 }
     ensures unread { result.0 ≡ 2 → script.new ≡ script.old }

@@ -35,8 +35,10 @@ fn turn<S: Source, K: Sink, Y: Keys, N: Words, L: Ledger>(
     steps: &mut Steps<L>,
 ) -> Result<(), End>
     ensures plays { (before : Moment)
-        → Played before (moment (S.told script.old) (K.told out.old) (outside (Y.told keys.old) (N.told nonces.old) steps.old)) reader.old session.old number
-        → PlaysOn before (moment (S.told script.new) (K.told out.new) (outside (Y.told keys.new) (N.told nonces.new) steps.new)) reader.new session.new number result }
+        → Played before (moment (S.told script.old) (K.told out.old) (outside (Y.told keys.old) (N.told nonces.old) steps.old))
+        reader.old session.old number
+        → PlaysOn before (moment (S.told script.new) (K.told out.new) (outside (Y.told keys.new) (N.told nonces.new) steps.new))
+        reader.new session.new number result }
     ensures read { FailsAtLast (S.told script.old).calls (S.told script.new).calls (result ≡ Err End.ReadFault) }
     ensures write { FailsAtLast (K.told out.old).calls (K.told out.new).calls (result ≡ Err End.WriteFault) }
     ensures later { OnOk result (reader.old.passed < reader.new.passed) }

@@ -1,5 +1,5 @@
 -- What the appraisal of a poll's evidence finds.
-use Rattle.std.specs.Prelude.{◌≡◌, ℕ, Bool, false, List, take, Option, Some, None, ⊤}
+use Rattle.std.specs.Prelude.{◌≡◌, Bool, false, List, take, Option, Some, None}
 use Rattle.kl_attest.specs.Grammar.{Quoted}
 use Rattle.kl_entry.specs.Entries.{EntryFields}
 use Rattle.kl_keys.specs.Told.{KeysTold}

@@ -1,5 +1,4 @@
-use Rattle.std.proofs.Common.{◌≡◌, ◌⊎◌, Bool, false, List, ℕ, Option, Some, None, sym, ap, subst, rules}
-use Rattle.kl_appraise.specs.declared.kept.Kept.{Kept}
+use Rattle.std.proofs.Common.{◌≡◌, ◌⊎◌, Bool, false, Some, None, sym, ap, subst, rules}
 use Rattle.kl_appraise.specs.Asking.{Asked, AskedOnce}
 use Rattle.kl_appraise.specs.Evidence.{check_under}
 use Rattle.kl_appraise.specs.Kept.{InEachCase, IsNext}

@@ -8,3 +8,4 @@ pub mod OneCall
 pub mod OneReply
 pub mod GoingOn
 pub mod OneStep
+pub mod GoodReplies

@@ -6,6 +6,7 @@
 
 mod closing;
 mod endings;
+mod genuine;
 mod installing;
 mod naming;
 mod polling;
@@ -17,6 +18,7 @@ mod texts;
 mod tickets;
 mod unique;
 
+pub use genuine::genuine_replies;
 pub use naming::NoTerms;
 pub use session::Session;
 pub use stop::Stop;

@@ -8,3 +8,4 @@ pub mod Statuses
 pub mod Words
 pub mod Coming
 pub mod OneOutput
+pub mod Completing

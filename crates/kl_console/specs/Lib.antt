@@ -3,4 +3,5 @@ pub mod Lines
 pub mod Script
 pub mod Run
 pub mod Unique
+pub mod Complete
 pub mod Inner

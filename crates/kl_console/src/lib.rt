@@ -2,6 +2,7 @@
 #![tactic(auto)]
 
 mod answering;
+mod complete;
 mod ending;
 mod line_reader;
 mod printing;
@@ -9,6 +10,7 @@ mod program;
 mod turns;
 mod unique;
 
+pub use complete::complete_runs;
 pub use program::{is_only_word, run, run_counted, run_kept};
 pub use unique::one_output;
 

@@ -1,0 +1,143 @@
+-- A run that lacks nothing but memory ends with 0 or 70.
+use Rattle.std.proofs.Common.{◌≡◌, ◌≢◌, ◌⊎◌, ℕ, ◌+◌, ◌≤◌, List, [], ◌∷◌, ◌++◌, length, All, Option, None, Some, inl, inr, refl, sym, ap, ◌∙◌, subst}
+use Rattle.std.proofs.Common.{arith, append_assoc, length-append}
+use Rattle.std.proofs.lemmas.List.Elements.{All-head, All-weaker, All-nil, All-cons, All-contains}
+use Rattle.kl_io.specs.Calls.{Calls, Rose}
+use Rattle.kl_script.specs.Commands.{CommandFields, Spells, begin}
+use Rattle.kl_history.specs.Records.{History}
+use Rattle.kl_session.specs.declared.stop.Stop.TheVariants.{NoNonce}
+use Rattle.kl_session.specs.Outside.{Outside}
+use Rattle.kl_session.specs.Calls.{SessionFields, empty}
+use Rattle.kl_session.specs.Stopped.{HasFewer, DrawsNone, IsStopped}
+use Rattle.kl_session.proofs.Opened.{all_right}
+use Rattle.kl_session.proofs.GoingOn.{consumed, follows_on}
+use Rattle.kl_console.specs.Calls.{FailsAtLast}
+use Rattle.kl_console.specs.Lines.{IsLine, Comes, IsOverLimit, script_limit, ended}
+use Rattle.kl_console.specs.Script.{Executed, SpellsNone}
+use Rattle.kl_console.specs.Run.{Moment, Ran, IsFaulty, IsDry, IsOver, EndsAs, IsStatus}
+use Rattle.kl_console.specs.Complete.{IsCommand, AreCommands, IsComplete}
+use Rattle.kl_console.proofs.Coming.{nothing_comes, nothing_over, one_comes, comes_within, comes_on, over_on, first_line, not_bare, either_further}
+
+-- ---- behind any lines of a script of commands comes a command, or nothing is left
+
+abbrev CommandComes : ℕ → List ℕ → Type 0
+CommandComes offset bytes = (bytes ≡ []) ⊎ ((line : List ℕ) × Comes offset None bytes line × IsCommand line)
+
+not_empty : (line more : List ℕ) → line ++ 10 ∷ more ≢ []
+not_empty line more none = omega (arith, ap (λ (all : List ℕ). length all) none, length-append line (10 ∷ more))
+
+last_comes : (offset : ℕ) (bytes last : List ℕ) → bytes ≡ last → (last ≢ [] → IsCommand last) → offset + length bytes ≤ script_limit → CommandComes offset bytes
+last_comes offset bytes [] same bare short = inl same
+last_comes offset bytes (b ∷ last) same bare short =
+    let some : b ∷ last ≢ [] = λ none. omega (arith, ap (λ (all : List ℕ). length all) none) in
+    let is = bare some in
+    let fits : offset + length (b ∷ last) ≤ script_limit = omega (arith, short, ap (λ (all : List ℕ). length all) same) in
+    inr (b ∷ last, inr (same, record { some = some; is_line = is.0; fits = fits; at_end = tt }), is)
+
+line_comes : (offset : ℕ) (bytes line more : List ℕ) → bytes ≡ line ++ 10 ∷ more → IsCommand line → offset + length bytes ≤ script_limit
+    → CommandComes offset bytes
+line_comes offset bytes line more parts is short =
+    let fits : offset + length line + 1 ≤ script_limit =
+    omega (arith, short, ap (λ (all : List ℕ). length all) parts, length-append line (10 ∷ more)) in
+    inr (line, inl (more, record { parts = parts; is_line = is.0; fits = fits }), is)
+
+module _ {script : List ℕ} (is : AreCommands script) (lines : List (List ℕ)) (bytes : List ℕ) (cut : script ≡ ended lines ++ bytes) where
+  short_behind : length (ended lines) + length bytes ≤ script_limit
+  short_behind = omega (arith, is.short, ap (λ (all : List ℕ). length all) cut, length-append (ended lines) bytes)
+
+  -- it has more lines than these
+  more_comes : (more : List (List ℕ)) → is.lines ≡ lines ++ more → bytes ≡ ended more ++ is.last → CommandComes (length (ended lines)) bytes
+  more_comes [] same rest = last_comes (length (ended lines)) bytes is.last rest is.bare short_behind
+  more_comes (line ∷ more) same rest =
+      let each = all_right IsCommand lines (line ∷ more) (subst (λ (ls : List (List ℕ)). All IsCommand ls) same is.each) in
+      line_comes (length (ended lines)) bytes line (ended more ++ is.last) (rest ∙ first_line line more is.last)
+      (All-head IsCommand line more each) short_behind
+
+  -- it has none of them in its last piece
+  none_further : (more : List (List ℕ)) → is.last ≡ ended more ++ bytes → CommandComes (length (ended lines)) bytes
+  none_further [] rest = last_comes (length (ended lines)) bytes is.last (sym rest) is.bare short_behind
+  none_further (line ∷ more) rest =
+      let parts = rest ∙ first_line line more bytes in
+      let some : is.last ≢ [] = λ none. not_empty line (ended more ++ bytes) (sym parts ∙ none) in
+      absurd (not_bare is.last line is.last (ended more ++ bytes) parts refl (is.bare some).0.whole)
+
+  command_comes : All IsLine lines → CommandComes (length (ended lines)) bytes
+  command_comes each =
+      elim (either_further lines is.lines bytes is.last each (All-weaker IsCommand IsLine (λ l c. c.0) is.lines is.each) (sym cut ∙ is.parts)) [
+        | inl f ↦ more_comes f.more f.lines_are f.rest_is
+        | inr f ↦ none_further f.more f.rest_is
+      ]
+
+-- so no line comes that spells none, and no limit is passed
+none_faulty : (offset : ℕ) (bytes line : List ℕ) → CommandComes offset bytes → Comes offset None bytes line → ¬ (SpellsNone line)
+none_faulty offset bytes line (inl none) comes spells = nothing_comes offset bytes line none comes
+none_faulty offset bytes line (inr (other, also, is)) comes spells =
+    spells is.1.0 (subst (λ (l : List ℕ). Spells l is.1.0) (one_comes offset bytes other line also comes) is.1.1)
+
+none_over : (offset : ℕ) (bytes : List ℕ) → offset ≤ script_limit → CommandComes offset bytes → ¬ (IsOverLimit offset bytes)
+none_over offset bytes fits (inl none) over = nothing_over offset bytes none fits over
+none_over offset bytes fits (inr (line, comes, is)) over = comes_within offset bytes line comes over
+
+-- ---- no nonce was wanting
+
+draws_none : (o o' : Outside) (s : SessionFields) (c : CommandFields) (s' : SessionFields) → IsStopped NoNonce o o' s c s' → DrawsNone o o'
+draws_none o o' s (begin b) s' h = h.1.1
+draws_none o o' s _ s' h = absurd h.1
+
+-- ---- how the run ends
+
+module _ {before after : Moment} (is : IsComplete before after) where
+  module _ {then : Outside} (s : Executed before.outside then) (rest : List ℕ) (written : List ℕ) (puts : ℕ)
+      (ran : Ran before after (ended s.lines ++ rest) written puts) where
+    took : (left : List ℕ) × (after.script.left ≡ Some left) × (is.script ≡ (ended s.lines ++ rest) ++ left)
+    took = consumed is.script before.script.left after.script.left (ended s.lines ++ rest) is.whole ran.read
+
+    comes_next : CommandComes (length (ended s.lines)) (rest ++ took.0)
+    comes_next = command_comes is.commands s.lines (rest ++ took.0) (took.2 ∙ append_assoc (ended s.lines) rest took.0) s.each
+
+  not_faulty : (H : History) → ¬ (IsFaulty before after H)
+  not_faulty H (s, rest, ran, (line, comes, none), _) =
+      let took = took s rest _ _ ran in
+      let told = subst (λ (left : Option (List ℕ)). Comes (length (ended s.lines)) left rest line) took.1 comes in
+      none_faulty (length (ended s.lines)) (rest ++ took.0) line (comes_next s rest _ _ ran) (comes_on (length (ended s.lines)) took.0 rest line told) none
+
+  not_over : (H : History) → ¬ (IsOver before after H)
+  not_over H (s, rest, ran, over, _) =
+      let left = (took s rest _ _ ran).0 in
+      none_over (length (ended s.lines)) (rest ++ left) s.fits (comes_next s rest _ _ ran) (over_on (length (ended s.lines)) left rest over)
+
+  not_dry : (H : History) → ¬ (IsDry before after H)
+  not_dry H (then, s, rest, ran, stops, _) =
+      let on = follows_on before.outside then empty s.commands s.texts s.last s.follows in
+      let none = draws_none then after.outside s.last stops.command s.last stops.stopped in
+      elim none.cause [
+        | inl met ↦ is.drawn (omega (arith, (met.met tt).0, on.drawn))
+        | inr few ↦
+            let fewer = subst (λ (left : Option (List ℕ)). HasFewer left 16) (sym none.left ∙ is.left) few.0 in
+            omega (arith, fewer, is.enough)
+      ]
+
+-- the counts of faults say so of the read and the put that failed
+met_rose : (old new : Calls) (Fault : Type 0) → FailsAtLast old new Fault → Fault → Rose old.faults new.faults
+met_rose old new Fault fails met = omega (arith, (fails.met met).0)
+
+abbrev Completes : Moment → Moment → History → ℕ → Type 0
+Completes before after H status = EndsAs before after status H → status ≢ 2 → (status ≡ 0) ⊎ (status ≡ 70)
+
+module _ {before after : Moment} (H : History) (is : IsComplete before after) where
+  by_status : All (Completes before after H) (0 ∷ 2 ∷ 3 ∷ 4 ∷ 5 ∷ 6 ∷ 8 ∷ 70 ∷ [])
+  by_status =
+      let P = Completes before after H in
+      All-cons P 0 (2 ∷ 3 ∷ 4 ∷ 5 ∷ 6 ∷ 8 ∷ 70 ∷ []) (λ ends begun. inl refl)
+      (All-cons P 2 (3 ∷ 4 ∷ 5 ∷ 6 ∷ 8 ∷ 70 ∷ []) (λ ends begun. absurd (begun refl))
+      (All-cons P 3 (4 ∷ 5 ∷ 6 ∷ 8 ∷ 70 ∷ []) (λ ends begun. absurd (not_faulty is H (ends.fault refl)))
+      (All-cons P 4 (5 ∷ 6 ∷ 8 ∷ 70 ∷ []) (λ ends begun. absurd (is.read (met_rose before.script.calls after.script.calls _ ends.read_cause refl)))
+      (All-cons P 5 (6 ∷ 8 ∷ 70 ∷ []) (λ ends begun. absurd (is.written (met_rose before.out.calls after.out.calls _ ends.write_cause refl)))
+      (All-cons P 6 (8 ∷ 70 ∷ []) (λ ends begun. absurd (not_dry is H (ends.nonce_fault refl)))
+      (All-cons P 8 (70 ∷ []) (λ ends begun. absurd (not_over is H (ends.over refl)))
+      (All-cons P 70 [] (λ ends begun. inr refl) (All-nil P))))))))
+
+pub complete_run : (before after : Moment) (status : ℕ) (H : History) → EndsAs before after status H → IsStatus status → status ≢ 2
+    → IsComplete before after → (status ≡ 0) ⊎ (status ≡ 70)
+complete_run before after status H ends among begun is =
+    All-contains (Completes before after H) (0 ∷ 2 ∷ 3 ∷ 4 ∷ 5 ∷ 6 ∷ 8 ∷ 70 ∷ []) status (by_status H is) among ends begun

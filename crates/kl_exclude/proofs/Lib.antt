@@ -1,0 +1,6 @@
+pub mod Beginnings
+pub mod Compiles
+pub mod Crosses
+pub mod OneSearch
+pub mod Trees
+pub mod Walks

@@ -1,0 +1,4 @@
+pub mod Members
+pub mod Reading
+pub mod Reply
+pub mod Texts

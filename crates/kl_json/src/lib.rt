@@ -1,0 +1,18 @@
+//! JSON (RFC 8259) as the verifier reads and writes it: a text is read into a [`Value`], members of one kind are taken
+//! out of an object by their names, and the text of a reply is written.
+#![tactic(auto)]
+
+mod fault;
+mod members;
+mod reading;
+mod reply;
+
+pub use fault::JsonFault;
+pub use kl_base::Memory;
+pub use members::{list_member, number_member, object_member, text_member};
+pub use reading::parse;
+pub use reply::reply_text;
+pub use serde_json::{Map, Value};
+
+#[cfg(test)]
+mod tests;

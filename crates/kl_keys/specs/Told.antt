@@ -10,11 +10,19 @@ pub data Exchange : Type 0 where
   Verified : List ℕ → List ℕ → List ℕ → Option Bool → Exchange
   -- of a key and a message: the signature, none at a fault or without memory
   Signed : List ℕ → List ℕ → Option (List ℕ) → Exchange
+  -- of a public key and a secret: the sealed bytes, none at a fault or without memory
+  Sealed : List ℕ → List ℕ → Option (List ℕ) → Exchange
+  -- of a public key and sealed bytes: the answer, the secret or none, and none at all at a fault
+  Unsealed : List ℕ → List ℕ → Option (Option (List ℕ)) → Exchange
+  -- of an endorsement key, an attestation key and a secret: the blob, none at a fault or without memory
+  Credential : List ℕ → List ℕ → List ℕ → Option (List ℕ) → Exchange
+  -- of an endorsement key, an attestation key and a blob: the answer as that of `unseal`
+  Activated : List ℕ → List ℕ → List ℕ → Option (Option (List ℕ)) → Exchange
 
 pub record KeysTold : Type 0 where
   -- the relations that the answers follow, where they are told
   pub relations : Option Relations
-  -- the calls of `verify` and `sign` together
+  -- all calls together
   pub calls : Calls
   -- every question that was ever asked, with its answer, oldest first, where they are told
   pub log : Option (List Exchange)

@@ -26,8 +26,8 @@ pub one_item : {X : Type 0} (a b c d : List X) (x y : X) → a ++ x ∷ b ≡ c 
 one_item a b c d x y same place =
     sym (get_or-append_seam a x b x) ∙ ap (λ xs. get_or xs (length a) x) same ∙ ap (λ n. get_or (c ++ y ∷ d) n x) place ∙ get_or-append_seam c y d x
 
--- so the first line that fails stands at one place, whatever is said of its failing
-pub one_failing : (Good F G : List ℕ → Type 0) → ((line : List ℕ) → F line → ¬ (Good line)) → ((line : List ℕ) → G line → ¬ (Good line)) → (lines : List (List ℕ)) (p q : ℕ)
-    → IsFirstFailing Good F lines p → IsFirstFailing Good G lines q → p ≡ q
-one_failing Good F G bad worse lines p q f g =
-    sym f.counted ∙ one_place Good f.before f.after g.before g.after f.line g.line (sym f.cut ∙ g.cut) f.good g.good (bad f.line f.fails) (worse g.line g.fails) ∙ g.counted
+-- so the first item that fails stands at one place, whatever is said of its failing
+pub one_failing : {X : Type 0} (Good F G : X → Type 0) → ((item : X) → F item → ¬ (Good item)) → ((item : X) → G item → ¬ (Good item)) → (items : List X) (p q : ℕ)
+    → IsFirstFailing Good F items p → IsFirstFailing Good G items q → p ≡ q
+one_failing Good F G bad worse items p q f g =
+    sym f.counted ∙ one_place Good f.before f.after g.before g.after f.item g.item (sym f.cut ∙ g.cut) f.good g.good (bad f.item f.fails) (worse g.item g.fails) ∙ g.counted

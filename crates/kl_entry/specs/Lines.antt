@@ -24,15 +24,15 @@ lines_of (b ∷ bs) = if b == 10 then [] ∷ lines_of bs else onto_first b (line
 abbrev pub RejoinsTo : List (List ℕ) → List ℕ → Type 0
 RejoinsTo lines text = (join_with_byte 10 lines ≡ text) ⊎ (join_with_byte 10 lines ++ 10 ∷ [] ≡ text)
 
--- The line at this place, counted from 0, is the first that fails, and those before it are good.
-pub record IsFirstFailing (Good Fails : List ℕ → Type 0) (lines : List (List ℕ)) (place : ℕ) : Type 0 where
-  pub before : List (List ℕ)
-  pub line : List ℕ
-  pub after : List (List ℕ)
-  pub cut : lines ≡ before ++ line ∷ after
+-- The item at this place, counted from 0, is the first that fails, and those before it are good.
+pub record IsFirstFailing {A : Type 0} (Good Fails : A → Type 0) (items : List A) (place : ℕ) : Type 0 where
+  pub before : List A
+  pub item : A
+  pub after : List A
+  pub cut : items ≡ before ++ item ∷ after
   pub counted : length before ≡ place
   pub good : All Good before
-  pub fails : Fails line
+  pub fails : Fails item
 
 -- ---- The parts of a line.
 

@@ -30,7 +30,7 @@ no_space digits digest h i below = not_space (get_or digits i 0) ((decode_of-ok 
 pub cut_at_space : (line digest path : List ℕ) (f : FlatLine line digest path) (r : Option (Bor (List ℕ) × Bor (List ℕ)))
     → IsSplitOnceResult 32 line r → MatchOption r ⊥ (λ x. (x.0.now ≡ f.digits) × (x.1.now ≡ 32 ∷ path))
 cut_at_space line digest path f r h =
-    split_after 32 line f.digits (32 ∷ path) r h (lit< tt) (f.parts ∙ by_spaces f.digits path) (no_space f.digits digest f.decoded)
+    split_after 32 line f.digits (32 ∷ path) r h (lit< tt) (f.parts ∙ by_spaces f.digits path) (no_space f.digits digest f.spelled.decoded)
 
 -- what stands behind the first byte
 pub same_tail : {x y : ℕ} {xs ys : List ℕ} → x ∷ xs ≡ y ∷ ys → xs ≡ ys

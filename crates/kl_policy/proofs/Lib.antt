@@ -7,3 +7,6 @@ pub mod Decoding
 pub mod Listing
 pub mod OnePolicy
 pub mod SamePolicy
+pub mod OneFault
+pub mod JsonFacts
+pub mod Crosses

@@ -111,7 +111,7 @@ pub first_bad_line : (text : List ℕ) (before : List (List ℕ)) (line : List �
     → 0 < length line → ((digest path : List ℕ) → ¬ (FlatLine line digest path)) → BreaksAt (lines_of text) place
 first_bad_line text before line after digests place cut counted h some none = record {
   before = before;
-  line = line;
+  item = line;
   after = after;
   cut = sym cut;
   counted = counted;

@@ -14,7 +14,7 @@ use Rattle.kl_policy.specs.PolicyFields.{PolicyFields}
 use Rattle.kl_policy.specs.Flat.{FlatLine, AreListed, ListsDigests, IsGoodLine, BreaksAt, IsFlatFault, IsReadAs, IsRefusedAt}
 use Rattle.kl_policy.specs.declared.fault.Limit.TheVariants.{Paths, Patterns, PatternBytes}
 use Rattle.kl_policy.specs.declared.fault.PolicyFault.{PolicyFault}
-use Rattle.kl_policy.specs.declared.fault.PolicyFault.TheVariants.{Line, Limit as Over, Memory}
+use Rattle.kl_policy.specs.declared.fault.PolicyFault.TheVariants.{Json, Line, BadDigest, Unsupported, Limit as Over, Exclude, Memory}
 use Rattle.kl_policy.proofs.FlatLines.{by_spaces, no_space, same_tail}
 use Rattle.kl_policy.proofs.Listing.{good_lines}
 
@@ -49,9 +49,9 @@ spaceless digits digest h = no_space digits digest h
 -- a line gives one digest and one path
 pub flat_line_same : (line d e p q : List ℕ) → FlatLine line d p → FlatLine line e q → (d ≡ e) × (p ≡ q)
 flat_line_same line d e p q f g =
-    let cut = one_cut f.digits g.digits (32 ∷ p) (32 ∷ q) (spaceless f.digits d f.decoded) (spaceless g.digits e g.decoded)
+    let cut = one_cut f.digits g.digits (32 ∷ p) (32 ∷ q) (spaceless f.digits d f.spelled.decoded) (spaceless g.digits e g.spelled.decoded)
     (sym (by_spaces f.digits p) ∙ sym f.parts ∙ g.parts ∙ by_spaces g.digits q) in
-    (decode_of-same g.digits d e (ap decode_of (sym cut.0) ∙ f.decoded) g.decoded, same_tail cut.1)
+    (decode_of-same g.digits d e (ap decode_of (sym cut.0) ∙ f.spelled.decoded) g.spelled.decoded, same_tail cut.1)
 
 -- lines give one list of pairs
 pub listed_same : (lines : List (List ℕ)) (ps qs : List (List ℕ × List ℕ)) → AreListed lines ps → AreListed lines qs → ps ≡ qs
@@ -80,8 +80,8 @@ one_bad_line lines p q f g = one_failing IsGoodLine (λ line. ¬ (IsGoodLine lin
 -- a text with a bad line lists none
 pub no_digests : (text : List ℕ) (place : ℕ) (m : DigestMap) → BreaksAt (lines_of text) place → ListsDigests text m → ⊥
 no_digests text place m fault h =
-    let good : All IsGoodLine (fault.before ++ fault.line ∷ fault.after) = subst (All IsGoodLine) fault.cut (good_lines (lines_of text) h.0 h.1) in
-    fault.fails (subst IsGoodLine (get_or-append_seam fault.before fault.line fault.after fault.line) (good (length fault.before) fault.line (omega (arith, length-append fault.before (fault.line ∷ fault.after)))))
+    let good : All IsGoodLine (fault.before ++ fault.item ∷ fault.after) = subst (All IsGoodLine) fault.cut (good_lines (lines_of text) h.0 h.1) in
+    fault.fails (subst IsGoodLine (get_or-append_seam fault.before fault.item fault.after fault.item) (good (length fault.before) fault.item (omega (arith, length-append fault.before (fault.item ∷ fault.after)))))
 
 -- a fault of a text that lists digests is that they have too many paths, or want of memory
 faulted : (text : List ℕ) (fault : PolicyFault) → IsFlatFault text fault → (digests : DigestMap) → ListsDigests text digests → IsReadAs (Err fault) digests
@@ -89,6 +89,10 @@ faulted text (Line place) h digests k = no_digests text place digests h k
 faulted text (Over Paths) h digests k = subst (λ (m : DigestMap). 262144 < finite_map.len m) (digests_same text h.0 digests h.1 k) h.2
 faulted text (Over Patterns) h digests k = h
 faulted text (Over PatternBytes) h digests k = h
+faulted text (Json fault) h digests k = h
+faulted text (BadDigest i j) h digests k = h
+faulted text (Unsupported name) h digests k = h
+faulted text (Exclude why) h digests k = h
 faulted text Memory h digests k = tt
 
 -- so a text that lists digests is read as them
@@ -105,4 +109,8 @@ refused_at text (Err (Line other)) found fault place bad = one_bad_line (lines_o
 refused_at text (Err (Over Paths)) found fault place bad = no_digests text place fault.0 bad fault.1
 refused_at text (Err (Over Patterns)) found fault place bad = fault
 refused_at text (Err (Over PatternBytes)) found fault place bad = fault
+refused_at text (Err (Json why)) found fault place bad = fault
+refused_at text (Err (BadDigest i j)) found fault place bad = fault
+refused_at text (Err (Unsupported name)) found fault place bad = fault
+refused_at text (Err (Exclude why)) found fault place bad = fault
 refused_at text (Err Memory) found fault place bad = tt

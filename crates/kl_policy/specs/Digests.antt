@@ -1,11 +1,12 @@
 -- The digests that a policy names for each path.
-use Rattle.std.specs.Prelude.{◌≡◌, ℕ, Option, None, Some, List, [], ◌∷◌, map, filter, IsSomeAnd, IsTrue}
+use Rattle.std.specs.Prelude.{◌≡◌, ◌≤◌, ℕ, length, Ok, Option, None, Some, List, [], ◌∷◌, map, filter, IsSomeAnd, IsTrue}
 use Rattle.std.specs.Coded.{Coded, coded_ℕ, coded_list}
 use Rattle.std.specs.Cmp.Lexicographic.{slice_cmp}
 use Rattle.std.specs.FinMap as finite_map
 use Rattle.std.specs.FinSet as finite_set
 use Rattle.std.specs.Ordering.{nat_cmp}
 use Rattle.std.specs.Str.{bytes_eq}
+use Rattle.hex.specs.Hex.{decode_of}
 
 -- a set of digests
 abbrev pub DigestSet : Type 0
@@ -14,6 +15,12 @@ DigestSet = finite_set.FinSet (slice_cmp nat_cmp)
 -- from the bytes of a path to the digests that a file there may have
 abbrev pub DigestMap : Type 0
 DigestMap = finite_map.FinMap (slice_cmp nat_cmp) DigestSet
+
+-- an even number of 2 to 128 hexadecimal digits in either case spell the digest
+pub record SpellsDigest (digits digest : List ℕ) : Type 0 where
+  pub decoded : decode_of digits ≡ Ok digest
+  pub some : 2 ≤ length digits
+  pub most : length digits ≤ 128
 
 -- the map names this digest for this path
 abbrev pub HasDigest : DigestMap → List ℕ → List ℕ → Type 0

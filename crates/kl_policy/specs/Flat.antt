@@ -4,11 +4,10 @@
 use Rattle.std.specs.Prelude.{◌≡◌, ℕ, ◌<◌, ◌≤◌, ◌++◌, ◌⊎◌, List, [], ◌∷◌, length, filter, Bool, true, false, All, codes, Result, Ok, Err, ⊤}
 use Rattle.std.specs.FinMap as finite_map
 use Rattle.std.specs.List.{AllZip}
-use Rattle.hex.specs.Hex.{decode_of}
 use Rattle.kl_entry.specs.Lines.{lines_of, IsFirstFailing}
-use Rattle.kl_policy.specs.Digests.{DigestMap, Collects}
+use Rattle.kl_policy.specs.Digests.{DigestMap, Collects, SpellsDigest}
 use Rattle.kl_policy.specs.PolicyFields.{PolicyFields}
-use Rattle.kl_policy.specs.declared.fault.Limit.TheVariants.{Paths, Patterns, PatternBytes}
+use Rattle.kl_policy.specs.declared.fault.Limit.TheVariants.{Paths}
 use Rattle.kl_policy.specs.declared.fault.PolicyFault.{PolicyFault}
 use Rattle.kl_policy.specs.declared.fault.PolicyFault.TheVariants.{Line, Limit as Over, Memory}
 
@@ -17,9 +16,7 @@ use Rattle.kl_policy.specs.declared.fault.PolicyFault.TheVariants.{Line, Limit a
 pub record FlatLine (line digest path : List ℕ) : Type 0 where
   pub digits : List ℕ
   pub parts : line ≡ digits ++ codes "  " ++ path
-  pub decoded : decode_of digits ≡ Ok digest
-  pub some : 2 ≤ length digits
-  pub most : length digits ≤ 128
+  pub spelled : SpellsDigest digits digest
   pub named : 1 ≤ length path
 
 -- the line gives this pair of a path and a digest
@@ -58,23 +55,20 @@ BreaksAt lines place = IsFirstFailing IsGoodLine (λ line. ¬ (IsGoodLine line))
 abbrev pub IsFlatFault : List ℕ → PolicyFault → Type 0
 IsFlatFault text (Line place) = BreaksAt (lines_of text) place
 IsFlatFault text (Over Paths) = (digests : DigestMap) × ListsDigests text digests × (262144 < finite_map.len digests)
-IsFlatFault text (Over Patterns) = ⊥
-IsFlatFault text (Over PatternBytes) = ⊥
 IsFlatFault text Memory = ⊤
+IsFlatFault text _ = ⊥
 
 -- what reading made of a text that lists these digests: a policy of them, or the answer that they have too
 -- many paths, unless memory ran out
 abbrev pub IsReadAs : Result PolicyFields PolicyFault → DigestMap → Type 0
 IsReadAs (Ok policy) digests = policy.digests ≡ digests
-IsReadAs (Err (Line place)) digests = ⊥
 IsReadAs (Err (Over Paths)) digests = 262144 < finite_map.len digests
-IsReadAs (Err (Over Patterns)) digests = ⊥
-IsReadAs (Err (Over PatternBytes)) digests = ⊥
 IsReadAs (Err Memory) digests = ⊤
+IsReadAs (Err _) digests = ⊥
 
 -- what reading made of a text whose first bad line is this: the answer which that is, unless memory ran out
 abbrev pub IsRefusedAt : Result PolicyFields PolicyFault → ℕ → Type 0
 IsRefusedAt (Ok policy) place = ⊥
 IsRefusedAt (Err (Line found)) place = found ≡ place
-IsRefusedAt (Err (Over limit)) place = ⊥
 IsRefusedAt (Err Memory) place = ⊤
+IsRefusedAt (Err _) place = ⊥

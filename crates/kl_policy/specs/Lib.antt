@@ -1,7 +1,9 @@
 pub mod Digests
 pub mod Flat
+pub mod Json
 pub mod Policy
 pub mod PolicyFields
 pub mod Texts
 pub mod Inner
 pub mod Reading
+pub mod Making

@@ -1,20 +1,25 @@
 -- Which entries of a measurement list a policy allows, and why it does not allow another.
-use Rattle.std.specs.Prelude.{◌≡◌, ℕ, if◌then◌else◌, Option, None, Some, List, All, take, slice_get, IsTrue, IsSomeAnd, MatchBool}
+use Rattle.std.specs.Prelude.{◌≡◌, ◌⊎◌, ℕ, if◌then◌else◌, Option, None, Some, List, All, take, slice_get, IsTrue, IsSomeAnd, MatchBool}
 use Rattle.std.specs.FinMap as finite_map
 use Rattle.std.specs.FinSet as finite_set
+use Rattle.kl_exclude.specs.Excludes.{any_excludes}
 use Rattle.kl_entry.specs.Entries.{EntryFields, is_violation, is_consistent}
 use Rattle.kl_policy.specs.Digests.{DigestSet, HasDigest}
 use Rattle.kl_policy.specs.PolicyFields.{PolicyFields}
 use Rattle.kl_policy.specs.declared.why.Why.{Why}
 use Rattle.kl_policy.specs.declared.why.Why.TheVariants.{Violation, Inconsistent, Unknown, Digest}
 
+-- the policy does not ask for a digest of this path: the leftmost match of one of its exclude patterns begins at byte 0
+abbrev pub Excludes : PolicyFields → List ℕ → Type 0
+Excludes policy path = IsTrue (any_excludes policy.patterns path)
+
 -- a violation is allowed where the policy passes violations; another entry is allowed where it is
--- consistent and the policy names its digest for its path
+-- consistent, and its path is excluded or the policy names its digest for its path
 abbrev pub Allows : PolicyFields → EntryFields → Type 0
 Allows policy entry =
     MatchBool (is_violation entry)
     (IsTrue policy.passes_violations)
-    (IsTrue (is_consistent entry) × HasDigest policy.digests entry.path entry.digest)
+    (IsTrue (is_consistent entry) × (Excludes policy entry.path ⊎ HasDigest policy.digests entry.path entry.digest))
 
 -- why a digest is not among those of its path
 abbrev pub why_unlisted : Option DigestSet → List ℕ → Option Why
@@ -25,7 +30,8 @@ why_unlisted (Some known) digest = if finite_set.contains known digest then None
 abbrev pub why_of : PolicyFields → EntryFields → Option Why
 why_of policy entry =
     if is_violation entry then (if policy.passes_violations then None else Some Violation)
-    else if is_consistent entry then why_unlisted (finite_map.get policy.digests entry.path) entry.digest
+    else if is_consistent entry then
+    (if any_excludes policy.patterns entry.path then None else why_unlisted (finite_map.get policy.digests entry.path) entry.digest)
     else Some Inconsistent
 
 -- the place, from 0, of the first entry that is not allowed, and why it is not; none, where all are

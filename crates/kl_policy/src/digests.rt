@@ -1,6 +1,6 @@
 //! The digests of each path, in a hash table.
 
-ghost use Rattle.std.specs.Prelude.{◌≡◌, ℕ, List, OnOk, Some, if◌then◌else◌, unwrap_or, string_bytes};
+ghost use Rattle.std.specs.Prelude.{◌≡◌, ℕ, List, IfOk, OnOk, Some, if◌then◌else◌, unwrap_or, string_bytes};
 ghost use Rattle.std.specs.HashMap.{get_by_text};
 ghost use Rattle.std.specs.FinMap as finite_map;
 ghost use Rattle.std.specs.FinSet as finite_set;
@@ -15,55 +15,72 @@ use std::collections::HashMap;
 use std::collections::hash_map::Entry;
 use std::marker::Model;
 
-/// The digests of one path, of which there is mostly one: it needs no memory of its own. Contracts see the
-/// set of them.
+/// The digests of one path. There is mostly one, which needs no memory of its own. Contracts see the set of them.
 #[derive(Drop)]
 pub struct KnownDigests {
-    first: FileDigest,
-    more: Option<Box<PackedDigests>>,
+    held: Held,
+}
+
+/// How the digests of one path lie in memory.
+#[derive(Drop)]
+enum Held {
+    Nothing,
+    One(FileDigest),
+    Many(Box<PackedDigests>),
 }
 
 impl Model for KnownDigests {
     ghost use Rattle.kl_policy.specs.Digests.{DigestSet, digest_set_code};
+    ghost use Rattle.kl_policy.specs.Inner.Table.{held_set};
 
     ghost Value = { DigestSet };
 
     ghost coded = { digest_set_code };
 
-    ghost use Rattle.std.specs.FinSet.{empty, insert};
-    ghost use Rattle.std.specs.Option.{option_map_or};
-
-    ghost view = { λ k. insert (option_map_or (λ more. more.value) k.more empty) k.first };
+    ghost view = { λ k. held_set k.held };
 }
 
 impl KnownDigests {
+    /// No digest.
+    pub fn none() -> KnownDigests
+        ensures { result ≡ finite_set.empty }
+    {
+        KnownDigests {
+            held: Held::Nothing,
+        }
+    }
+
     fn of(digest: FileDigest) -> KnownDigests
         ensures { result ≡ finite_set.insert finite_set.empty digest }
     {
         KnownDigests {
-            first: digest,
-            more: None,
+            held: Held::One(digest),
         }
     }
 
-    fn push(&mut self, alloc: Global, digest: &FileDigest) -> Result<(), Memory>
+    /// Adds a digest.
+    pub fn push(&mut self, alloc: Global, digest: &FileDigest) -> Result<(), Memory>
         ensures { OnOk result (self.new ≡ finite_set.insert self.old digest.now) }
     {
-        match &mut self.more {
-            Some(more) => more.push(digest)?,
-            None => {
-                let mut more = PackedDigests::new(alloc);
-                more.push(digest)?;
-                self.more = Some(Box::new(alloc, more)?);
+        match &mut self.held {
+            Held::Nothing => {
+                self.held = Held::One(*digest);
+                Ok(())
             }
+            Held::One(first) => {
+                let both = pair(alloc, first, digest)?;
+                self.held = Held::Many(both);
+                Ok(())
+            }
+            Held::Many(more) => more.push(digest),
         }
-        Ok(())
     }
 
-    fn sort(&mut self)
+    /// Sorts the digests, so that a look-up takes no more steps than the logarithm of how many there are.
+    pub fn sort(&mut self)
         ensures { self.new ≡ self.old }
     {
-        if let Some(more) = &mut self.more {
+        if let Held::Many(more) = &mut self.held {
             more.sort();
         }
     }
@@ -72,14 +89,26 @@ impl KnownDigests {
     pub fn contains(&self, digest: &[u8]) -> bool
         ensures { result ≡ finite_set.contains self.now digest.now }
     {
-        if digest == self.first.as_slice() {
-            return true;
-        }
-        match &self.more {
-            Some(more) => more.contains(digest),
-            None => false,
+        match &self.held {
+            Held::Nothing => false,
+            Held::One(first) => digest == first.as_slice(),
+            Held::Many(more) => more.contains(digest),
         }
     }
+}
+
+/// Two digests of one path.
+fn pair(
+    alloc: Global,
+    first: &FileDigest,
+    second: &FileDigest,
+) -> Result<Box<PackedDigests>, Memory>
+    ensures { IfOk result (λ both. both.value ≡ finite_set.insert (finite_set.insert finite_set.empty first.now) second.now) }
+{
+    let mut both = PackedDigests::new(alloc);
+    both.push(first)?;
+    both.push(second)?;
+    Ok(Box::new(alloc, both)?)
 }
 
 /// From paths to their digests.
@@ -106,6 +135,25 @@ impl DigestMap {
     {
         DigestMap {
             map: HashMap::new(alloc),
+        }
+    }
+
+    /// No paths, with room for so many.
+    pub fn with_room(alloc: Global, paths: usize) -> Result<DigestMap, Memory>
+        ensures { IfOk result (λ digests. digests ≡ finite_map.empty) }
+    {
+        Ok(DigestMap {
+            map: HashMap::with_capacity(alloc, paths)?,
+        })
+    }
+
+    /// Adds a path with these digests, in place of those that it had.
+    pub fn put(&mut self, path: String, known: KnownDigests) -> Result<(), Memory>
+        ensures { OnOk result (self.new ≡ finite_map.insert self.old (string_bytes path) known) }
+    {
+        match self.map.insert(path, known) {
+            Ok(_) => Ok(()),
+            Err(_) => Err(Memory),
         }
     }
 

@@ -4,6 +4,8 @@ ghost use Rattle.std.specs.Prelude.{Some};
 ghost use Rattle.kl_policy.specs.Texts.{fault_text, limit_text};
 
 use kl_base::Memory;
+use kl_exclude::ExcludeFault;
+use kl_json::JsonFault;
 use std::alloc::AllocError;
 use std::error::Error;
 use std::fmt;
@@ -34,11 +36,20 @@ impl fmt::Display for Limit {
 /// What is wrong with a policy's text.
 #[derive(Clone, Copy, Debug, PartialEq, Eq)]
 pub enum PolicyFault {
+    /// What the JSON of a policy lacks.
+    Json(JsonFault),
     /// The first line of a flat policy that is neither empty nor a digest, two spaces and a path.
     /// Lines are counted from 0, empty ones too.
     Line(usize),
+    /// The first text that spells no digest, of a JSON policy: the place of its path in the order of bytes, and its
+    /// place there, both from 0.
+    BadDigest(usize, usize),
+    /// The first member of a JSON policy that says what is not supported.
+    Unsupported(&'static str),
     /// The policy passes a bound.
     Limit(Limit),
+    /// The first exclude pattern that is none, or that is too large.
+    Exclude(ExcludeFault),
     /// There was no memory left.
     Memory,
 }
@@ -52,7 +63,13 @@ impl fmt::Display for PolicyFault {
                 f,
                 "line {number} is no digest, two spaces and a path"
             ),
+            PolicyFault::Json(fault) => write!(f, "the policy: {fault}"),
+            PolicyFault::BadDigest(path, place) => {
+                write!(f, "digest {place} of path {path} is no digest")
+            }
+            PolicyFault::Unsupported(name) => write!(f, "{name} is not supported"),
             PolicyFault::Limit(limit) => write!(f, "the policy has {limit}"),
+            PolicyFault::Exclude(fault) => write!(f, "the policy: {fault}"),
             PolicyFault::Memory => write!(f, "out of memory"),
         }
     }

@@ -1,23 +1,36 @@
 //! Runtime policies: which entries of an IMA measurement list are allowed.
 //!
 //! A policy names, for each path, the digests that a file there may have. [`read_flat`] reads one from
-//! a flat allowlist, and [`Policy::first_bad`] finds the first entry of a list that it does not allow.
+//! a flat allowlist, [`read_json`] one from Keylime's JSON, and [`Policy::first_bad`] finds the first entry of a list that it does not allow.
 #![tactic(auto)]
 
+mod content;
 mod digests;
 mod fault;
 mod flat;
-mod kind;
+mod json;
+mod json_digests;
+mod json_members;
+mod judge;
+mod limits;
 mod line;
 mod packed;
 mod policy;
+mod reading;
+mod spelling;
 #[cfg(test)]
 mod tests;
+mod threads;
+mod unique;
 mod why;
 
 pub use fault::{Limit, PolicyFault};
 pub use flat::read_flat;
-pub use kind::PolicyKind;
+pub use json::read_json;
+pub use judge::Judge;
 pub use kl_base::Memory;
+pub use kl_states::PolicyKind;
 pub use policy::Policy;
+pub use reading::read_policy;
+pub use unique::one_reading;
 pub use why::Why;

@@ -1,17 +1,10 @@
 //! A line of a flat policy.
 
-ghost use Rattle.std.specs.Prelude.{◌≡◌, ◌≢◌, ℕ, ◌≤◌, List, length, Ok, IfSome, IfNone};
-ghost use Rattle.hex.specs.Hex.{decode_of};
+ghost use Rattle.std.specs.Prelude.{ℕ, List, IfSome, IfNone};
 ghost use Rattle.kl_policy.specs.Flat.{FlatLine};
 
-use kl_base::digit_value;
+use crate::spelling::spelled_digest;
 use kl_entry::FileDigest;
-
-/// The fewest digits of a line.
-const LEAST_DIGITS: usize = 2;
-
-/// The most digits of a line.
-const MOST_DIGITS: usize = 128;
 
 /// What a line lists: a path, and a digest that a file there may have.
 #[derive(Drop)]
@@ -28,28 +21,9 @@ pub fn read_line(line: &str) -> Option<Listed<'_>>
 {
     let (digits, rest) = line.split_once(' ')?;
     let path = rest.strip_prefix(' ')?;
-    if digits.len() < LEAST_DIGITS || digits.len() > MOST_DIGITS || path.is_empty() {
+    if path.is_empty() {
         return None;
     }
-    let digest = read_digest(digits.as_bytes())?;
+    let digest = spelled_digest(digits.as_bytes())?;
     Some(Listed { path, digest })
-}
-
-/// The digest that an even number of hexadecimal digits spell, or `None` where these bytes are not so.
-fn read_digest(digits: &[u8]) -> Option<FileDigest>
-    requires { length digits.now ≤ MOST_DIGITS }
-    ensures read { IfSome result (λ digest. decode_of digits.now ≡ Ok digest) }
-    ensures none { IfNone result ((digest : List ℕ) → decode_of digits.now ≢ Ok digest) }
-{
-    if digits.len() % 2 != 0 {
-        return None;
-    }
-    let mut room = [0; MOST_DIGITS / 2];
-    let len = digits.len() / 2;
-    for i in 0..len {
-        let high = digit_value(digits[2 * i])?;
-        let low = digit_value(digits[2 * i + 1])?;
-        room[i] = high * 16 + low;
-    }
-    FileDigest::from_bytes(&room[..len])
 }

@@ -1,112 +1,96 @@
 //! A policy, and what it allows.
 
-ghost use Rattle.std.specs.Prelude.{◌≡◌, ◌↔◌, string_bytes, IfOk, IsNone, IsOk, IsTrue};
-ghost use Rattle.kl_entry.specs.Entries.{is_consistent};
-ghost use Rattle.kl_policy.specs.Policy.{why_of, Allows, IsFirstBad};
-ghost use Rattle.kl_policy.specs.Reading.{IsReading};
+ghost use Rattle.std.specs.Prelude.{◌≡◌, ◌↔◌, [], IfOk, IsOk, IsTrue};
+ghost use Rattle.std.specs.Arc.{arc_value};
+ghost use Rattle.kl_policy.specs.Policy.{IsFirstBad};
+ghost use Rattle.kl_policy.specs.Reading.{IsPolicy};
 
-use crate::digests::DigestMap;
-use crate::kind::PolicyKind;
+use crate::content::Content;
+use crate::judge::Judge;
 use crate::why::Why;
 use kl_base::Memory;
-use kl_entry::{Entry, EntryData, consistent_with, violation};
+use kl_entry::{Entry, EntryData, consistent_with};
+use kl_states::PolicyKind;
 use std::alloc::Global;
 use std::marker::Model;
+use std::sync::Arc;
 
-/// A runtime policy: the text that it was read from, and what that says.
+/// A runtime policy: the text that it was read from, and what that says. Several owners may share it.
 ///
-/// Contracts see it as its text, the form of that, a map from paths to sets of digests, and whether
-/// violations pass.
+/// Contracts see it as its text, the form of that, a map from paths to sets of digests, the texts of its exclude
+/// patterns, and whether violations pass.
 #[derive(Drop)]
 pub struct Policy {
-    source: String,
-    kind: PolicyKind,
-    digests: DigestMap,
-    passes_violations: bool,
+    content: Arc<Content>,
 }
 
 impl Model for Policy {
-    ghost use Rattle.std.specs.Prelude.{string_bytes};
     ghost use Rattle.std.specs.Coded.{codes};
+    ghost use Rattle.std.specs.Arc.{arc_value};
     ghost use Rattle.kl_policy.specs.Digests.{digest_map_code};
     ghost use Rattle.kl_policy.specs.PolicyFields.{PolicyFields};
-    ghost use Rattle.kl_policy.specs.Reading.{IsReading};
 
     ghost Value = { PolicyFields };
 
     ghost coded = { Prim.hlevel (codes, digest_map_code) };
 
-    ghost view = { λ p. record {
-      source = string_bytes p.source;
-      kind = p.kind;
-      digests = p.digests;
-      passes_violations = p.passes_violations;
-    } };
-
-    ghost invariant = { λ p. IsReading (string_bytes p.source) p.kind p.digests p.passes_violations };
+    ghost view = { λ p. arc_value p.content };
 }
 
 impl Policy {
-    pub(crate) fn of(
-        source: String,
-        kind: PolicyKind,
-        digests: DigestMap,
-        passes_violations: bool,
-    ) -> Policy
-        requires reading { IsReading (string_bytes source) kind digests passes_violations }
-        ensures source { result.source ≡ string_bytes source }
-        ensures kind { result.kind ≡ kind }
-        ensures digests { result.digests ≡ digests }
-        ensures passes_violations { result.passes_violations ≡ passes_violations }
+    pub(crate) fn of(alloc: Global, content: Content) -> Result<Policy, Memory>
+        ensures { IfOk result (λ policy. policy ≡ content) }
     {
-        Policy {
-            source,
-            kind,
-            digests,
-            passes_violations,
-        }
+        Ok(Policy {
+            content: Arc::new(alloc, content)?,
+        })
+    }
+
+    pub(crate) fn content(&self) -> &Content
+        ensures { result.now ≡ self.now }
+    {
+        &self.content
+    }
+
+    /// One owner more, which copies none of it.
+    ///
+    /// # Errors
+    ///
+    /// `Memory` where the count of owners cannot grow.
+    pub fn share(&self) -> Result<Policy, Memory>
+        ensures { IfOk result (λ policy. policy ≡ self.now) }
+    {
+        Ok(Policy {
+            content: Arc::try_clone(&self.content)?,
+        })
     }
 
     /// The text that the policy was read from.
     pub fn source(&self) -> &str
         ensures { result.now ≡ self.now.source }
     {
-        self.source.as_str()
+        self.content().source.as_str()
     }
 
     /// The form of that text.
     pub fn kind(&self) -> PolicyKind
         ensures { result ≡ self.now.kind }
     {
-        self.kind
+        self.content().kind
     }
 
-    /// Whether the other policy is equal. Since a policy is what its text says, the form and the text alone are
-    /// compared.
+    /// Whether the other policy is equal, which is whether it was read from the same text in the same form.
     pub fn equals(&self, other: &Policy) -> bool
         ensures { IsTrue result ↔ (self.now ≡ other.now) }
     {
-        self.kind == other.kind && self.source.as_str() == other.source.as_str()
+        self.content().equals(other.content())
     }
 
-    /// Why the policy does not allow `entry`: the first reason that applies, or `None` where it allows
-    /// it. `consistent` says whether the entry is consistent, which the caller knows.
-    pub fn why(&self, entry: &Entry<'_>, consistent: bool) -> Option<Why>
-        requires { consistent ≡ is_consistent entry.now }
-        ensures why { result ≡ why_of self.now entry.now }
-        ensures allowed { IsNone result ↔ Allows self.now entry.now }
+    /// Whether the policy was read from that text in that form, so that it is what the text says.
+    pub fn is_of(&self, kind: PolicyKind, text: &str) -> bool
+        ensures { IsTrue result → IsPolicy kind text.now self.now }
     {
-        if violation(entry) {
-            return (!self.passes_violations).then_some(Why::Violation);
-        }
-        if !consistent {
-            return Some(Why::Inconsistent);
-        }
-        match self.digests.find(entry.path()) {
-            None => Some(Why::Unknown),
-            Some(known) if known.contains(entry.digest().as_slice()) => None,
-            Some(_) => Some(Why::Digest),
-        }
+        self.content().is_of(kind, text)
     }
 
     /// The place of the first of `entries` that the policy does not allow, and why it does not; `None`
@@ -114,19 +98,21 @@ impl Policy {
     ///
     /// # Errors
     ///
-    /// `Memory` where memory runs out, which a flat policy does not need.
+    /// `Memory` where memory runs out, which a policy without exclude patterns does not need.
     pub fn first_bad(
         &self,
         alloc: Global,
         entries: &[Entry<'_>],
     ) -> Result<Option<(usize, Why)>, Memory>
         ensures first { IfOk result (λ found. IsFirstBad self.now entries.now found) }
-        ensures flat { self.now.kind ≡ PolicyKind.Flat → IsOk result }
+        ensures plain { self.now.patterns ≡ [] → IsOk result }
     {
+        let mut judge = Judge::new(self);
         let mut data = EntryData::new();
         for (i, entry) in entries.iter().enumerate() {
             data.lay_out(entry);
-            if let Some(why) = self.why(entry, consistent_with(entry, &data)) {
+            let found = judge.why(alloc, entry, consistent_with(entry, &data))?;
+            if let Some(why) = found {
                 return Ok(Some((i, why)));
             }
         }

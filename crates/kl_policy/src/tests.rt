@@ -1,5 +1,8 @@
 use super::*;
 use kl_entry::{Entry, FileDigest};
+use kl_exclude::{ExcludeFault, MemMaker, StdMaker};
+use kl_json::JsonFault;
+use std::alloc::Global;
 use std::test::Fail;
 
 // Upper-case digits, an empty line, a path that begins with a space, and a path with three digests of which one stands twice.
@@ -137,6 +140,22 @@ fn faults_and_reasons_print_what_is_wrong(rt: HostRuntime) -> Result<(), Fail> {
             PolicyFault::Limit(Limit::PatternBytes),
             "the policy has a pattern of more than 512 bytes",
         ),
+        (
+            PolicyFault::BadDigest(2, 1),
+            "digest 1 of path 2 is no digest",
+        ),
+        (
+            PolicyFault::Unsupported("keyrings"),
+            "keyrings is not supported",
+        ),
+        (
+            PolicyFault::Json(JsonFault::NotJson),
+            "the policy: the text is no JSON",
+        ),
+        (
+            PolicyFault::Exclude(ExcludeFault::Syntax(0)),
+            "the policy: exclude 0 is no pattern",
+        ),
         (PolicyFault::Memory, "out of memory"),
     ] {
         assert_eq!(rt; fault.to_string(rt.alloc())?.as_str(), words);
@@ -159,11 +178,302 @@ fn faults_and_reasons_print_what_is_wrong(rt: HostRuntime) -> Result<(), Fail> {
 }
 
 #[test]
-fn a_policy_of_nothing_is_flat_and_shared_by_threads(rt: HostRuntime) -> Result<(), Fail> {
+fn a_policy_of_nothing_is_flat(rt: HostRuntime) -> Result<(), Fail> {
     let policy = read_flat(rt.alloc(), "")?;
-    shared(&policy);
     assert!(rt; policy.kind() == PolicyKind::Flat && policy.first_bad(rt.alloc(), &[])?.is_none());
     Ok(())
 }
 
-fn shared<T: Sync + Send>(_value: &T) {}
+/// Texts of JSON policies, and what is wrong with each.
+const JSON_FAULTS: [(&str, Option<PolicyFault>); 43] = [
+    ("", Some(PolicyFault::Json(JsonFault::NotJson))),
+    (
+        "{\"digests\":{},}",
+        Some(PolicyFault::Json(JsonFault::NotJson)),
+    ),
+    ("[]", Some(PolicyFault::Json(JsonFault::Kind("policy")))),
+    ("null", Some(PolicyFault::Json(JsonFault::Kind("policy")))),
+    ("{}", Some(PolicyFault::Json(JsonFault::Missing("digests")))),
+    (
+        "{\"digests\":[]}",
+        Some(PolicyFault::Json(JsonFault::Kind("digests"))),
+    ),
+    (
+        "{\"digests\":null}",
+        Some(PolicyFault::Json(JsonFault::Kind("digests"))),
+    ),
+    (
+        "{\"digests\":{\"/a\":\"00\"}}",
+        Some(PolicyFault::Json(JsonFault::Kind("digests"))),
+    ),
+    (
+        "{\"digests\":{\"/a\":[17]}}",
+        Some(PolicyFault::Json(JsonFault::Kind("digests"))),
+    ),
+    (
+        "{\"digests\":{\"/a\":[\"x\"],\"/b\":[17]}}",
+        Some(PolicyFault::Json(JsonFault::Kind("digests"))),
+    ),
+    (
+        "{\"digests\":{\"/a\":[\"aa\"],\"/b\":[\"bb\",\"c\"]}}",
+        Some(PolicyFault::BadDigest(1, 1)),
+    ),
+    (
+        "{\"digests\":{\"/b\":[\"bb\",\"c\"],\"/a\":[\"aa\"]}}",
+        Some(PolicyFault::BadDigest(1, 1)),
+    ),
+    (
+        "{\"digests\":{\"/a\":[\"\"]}}",
+        Some(PolicyFault::BadDigest(0, 0)),
+    ),
+    // The last of a member's values counts.
+    ("{\"digests\":7,\"digests\":{}}", None),
+    (
+        "{\"digests\":{},\"digests\":7}",
+        Some(PolicyFault::Json(JsonFault::Kind("digests"))),
+    ),
+    ("{\"digests\":{\"/a\":[\"x\"],\"/a\":[\"00\"]}}", None),
+    (
+        "{\"digests\":{\"/a\":[\"00\"],\"/a\":[\"x\"]}}",
+        Some(PolicyFault::BadDigest(0, 0)),
+    ),
+    (
+        "{\"digests\":{},\"kl-violations\":\"maybe\",\"kl-violations\":\"fail\"}",
+        None,
+    ),
+    // What is not asked for.
+    (
+        "{\"digests\":{},\"excludes\":\"/tmp/\"}",
+        Some(PolicyFault::Json(JsonFault::Kind("excludes"))),
+    ),
+    (
+        "{\"digests\":{},\"excludes\":[\"/tmp/\",1]}",
+        Some(PolicyFault::Json(JsonFault::Kind("excludes"))),
+    ),
+    (
+        "{\"digests\":{},\"excludes\":null}",
+        Some(PolicyFault::Json(JsonFault::Kind("excludes"))),
+    ),
+    (
+        "{\"digests\":{},\"kl-violations\":\"maybe\"}",
+        Some(PolicyFault::Json(JsonFault::Kind("kl-violations"))),
+    ),
+    (
+        "{\"digests\":{},\"kl-violations\":true}",
+        Some(PolicyFault::Json(JsonFault::Kind("kl-violations"))),
+    ),
+    ("{\"digests\":{},\"kl-violations\":\"pass\"}", None),
+    (
+        "{\"digests\":{},\"keyrings\":{\"k\":[]}}",
+        Some(PolicyFault::Unsupported("keyrings")),
+    ),
+    (
+        "{\"digests\":{},\"ima-buf\":{\"b\":[]}}",
+        Some(PolicyFault::Unsupported("ima-buf")),
+    ),
+    (
+        "{\"digests\":{},\"verification-keys\":\"k\"}",
+        Some(PolicyFault::Unsupported("verification-keys")),
+    ),
+    (
+        "{\"digests\":{},\"verification-keys\":false}",
+        Some(PolicyFault::Unsupported("verification-keys")),
+    ),
+    (
+        "{\"digests\":{},\"keyrings\":{},\"ima-buf\":null,\"verification-keys\":\"\"}",
+        None,
+    ),
+    (
+        "{\"meta\":{\"version\":1},\"digests\":{},\"ima\":{\"a\":1},\"keyrings\":[]}",
+        None,
+    ),
+    (
+        "{\"digests\":{},\"excludes\":[\"(\"]}",
+        Some(PolicyFault::Exclude(ExcludeFault::Syntax(0))),
+    ),
+    (
+        "{\"digests\":{},\"excludes\":[\"a\",\"*\",\"(\"]}",
+        Some(PolicyFault::Exclude(ExcludeFault::Syntax(1))),
+    ),
+    ("{\"digests\":{},\"excludes\":[\"a\",\"\"]}", None),
+    // Of several faults the first is told.
+    (
+        "{\"keyrings\":5,\"kl-violations\":5,\"excludes\":5,\"digests\":{\"/a\":[\"x\"]}}",
+        Some(PolicyFault::BadDigest(0, 0)),
+    ),
+    (
+        "{\"keyrings\":5,\"kl-violations\":5,\"excludes\":[\"(\"],\"digests\":5}",
+        Some(PolicyFault::Json(JsonFault::Kind("digests"))),
+    ),
+    (
+        "{\"keyrings\":5,\"kl-violations\":5,\"excludes\":[\"(\"]}",
+        Some(PolicyFault::Json(JsonFault::Missing("digests"))),
+    ),
+    (
+        "{\"keyrings\":5,\"kl-violations\":5,\"excludes\":5,\"digests\":{}}",
+        Some(PolicyFault::Json(JsonFault::Kind("excludes"))),
+    ),
+    (
+        "{\"keyrings\":5,\"kl-violations\":5,\"excludes\":[\"(\"],\"digests\":{}}",
+        Some(PolicyFault::Json(JsonFault::Kind("kl-violations"))),
+    ),
+    (
+        "{\"verification-keys\":5,\"ima-buf\":5,\"keyrings\":5,\"excludes\":[\"(\"],\"digests\":{}}",
+        Some(PolicyFault::Unsupported("keyrings")),
+    ),
+    (
+        "{\"verification-keys\":5,\"ima-buf\":5,\"excludes\":[\"(\"],\"digests\":{}}",
+        Some(PolicyFault::Unsupported("ima-buf")),
+    ),
+    (
+        "{\"verification-keys\":5,\"excludes\":[\"(\"],\"digests\":{}}",
+        Some(PolicyFault::Unsupported("verification-keys")),
+    ),
+    ("{\"digests\":{}}", None),
+    (
+        "{\"digests\":{\"/a\":[],\"/b\":[\"00\",\"00FF\"]},\"excludes\":[]}",
+        None,
+    ),
+];
+
+/// The fault of a JSON policy's text, which both readers tell.
+fn json_fault(alloc: Global, text: &str) -> Result<Option<PolicyFault>, Fail> {
+    let copied = read_json(alloc, text, &mut StdMaker::new()).err();
+    let text = String::from_str(alloc, text)?;
+    let kept = read_policy(alloc, PolicyKind::Json, text, &mut StdMaker::new()).err();
+    if copied != kept {
+        return Err(Fail::new("the readers differ"));
+    }
+    Ok(kept)
+}
+
+#[test]
+fn what_is_wrong_with_a_json_policy(rt: HostRuntime) -> Result<(), Fail> {
+    for (text, want) in JSON_FAULTS {
+        assert_eq!(rt; json_fault(rt.alloc(), text)?, want, "{text}");
+    }
+    Ok(())
+}
+
+/// A JSON policy with this many patterns of this many bytes.
+fn with_patterns(alloc: Global, count: usize, bytes: usize) -> Result<String, Fail> {
+    let mut text = String::from_str(alloc, "{\"digests\":{},\"excludes\":[\"")?;
+    for i in 0..count {
+        if i > 0 {
+            text.push_str("\",\"")?;
+        }
+        for _ in 0..bytes {
+            text.push('a')?;
+        }
+    }
+    text.push_str("\"]}")?;
+    Ok(text)
+}
+
+#[test]
+fn a_json_policy_has_at_most_32_patterns_of_at_most_512_bytes(rt: HostRuntime) -> Result<(), Fail> {
+    for (count, bytes, want) in [
+        (32, 512, None),
+        (33, 1, Some(PolicyFault::Limit(Limit::Patterns))),
+        (1, 513, Some(PolicyFault::Limit(Limit::PatternBytes))),
+        (33, 513, Some(PolicyFault::Limit(Limit::Patterns))),
+    ] {
+        let text = with_patterns(rt.alloc(), count, bytes)?;
+        assert_eq!(rt; json_fault(rt.alloc(), text.as_str())?, want);
+    }
+    Ok(())
+}
+
+#[test]
+fn a_pattern_may_be_too_large(rt: HostRuntime) -> Result<(), Fail> {
+    for (text, call, place) in [
+        ("{\"digests\":{},\"excludes\":[\"a\",\"(\"]}", 1, 0),
+        ("{\"digests\":{},\"excludes\":[\"a\",\"b\"]}", 2, 1),
+    ] {
+        let mut maker = MemMaker::new(rt.alloc(), &[call])?;
+        let fault = read_json(rt.alloc(), text, &mut maker).err();
+        assert_eq!(rt;
+            fault,
+            Some(PolicyFault::Exclude(ExcludeFault::TooLarge(place)))
+        );
+    }
+    Ok(())
+}
+
+/// Digests in either case of letters, a path with none, and what stands in `/tmp`.
+const JSON: &str =
+    "{\"digests\":{\"/bin/a\":[\"00FF\",\"ab\"],\"/n\":[]},\"excludes\":[\"/tmp/\"]}";
+
+/// The same, where violations pass.
+const LENIENT: &str =
+    "{\"digests\":{\"/bin/a\":[\"00FF\",\"ab\"],\"/n\":[]},\"excludes\":[\"/tmp/\"],\"kl-violations\":\"pass\"}";
+
+/// Policies, the template hash, digest and path of an entry, and why the policy does not allow it. The hashes come as
+/// those above.
+const JUDGED: [(&str, &str, &[u8], &str, Option<Why>); 9] = [
+    (
+        JSON,
+        "801e095fe4d9789e9fd9f7545da38b5304160289",
+        &[0, 255],
+        "/bin/a",
+        None,
+    ),
+    (
+        JSON,
+        "615cc0e573dc4146ce15011bf4c3511df92151e9",
+        &[171],
+        "/bin/a",
+        None,
+    ),
+    (
+        JSON,
+        "caa77f9931d07971a6e7c67dda17c4f1335a3de8",
+        &[1],
+        "/bin/a",
+        Some(Why::Digest),
+    ),
+    (
+        JSON,
+        "d3d671a2c72859c8d023db359bcb836554af33f6",
+        &[171],
+        "/n",
+        Some(Why::Digest),
+    ),
+    (
+        JSON,
+        "e9a837aa83603aab1b914a42f92f495a050d3d07",
+        &[171],
+        "/tmp/x",
+        None,
+    ),
+    (
+        JSON,
+        "801e095fe4d9789e9fd9f7545da38b5304160289",
+        &[0, 255],
+        "/tmp/x",
+        Some(Why::Inconsistent),
+    ),
+    (
+        JSON,
+        "a938ea2084a3dc6028ea901da395198c7886e429",
+        &[171],
+        "/var/tmp/x",
+        Some(Why::Unknown),
+    ),
+    (JSON, ZEROS, &[0, 255], "/tmp/x", Some(Why::Violation)),
+    (LENIENT, ZEROS, &[0, 255], "/bin/b", None),
+];
+
+#[test]
+fn what_a_json_policy_allows(rt: HostRuntime) -> Result<(), Fail> {
+    let flat = read_flat(rt.alloc(), "")?;
+    for (text, hash, digest, path, want) in JUDGED {
+        let policy = read_json(rt.alloc(), text, &mut StdMaker::new())?;
+        let entries = [entry(hash, digest, path)?];
+        let bad = policy.first_bad(rt.alloc(), &entries)?;
+        let shared = policy.share()?;
+        let same = shared.equals(&policy) && !shared.equals(&flat);
+        assert!(rt; same && bad == want.map(|why| (0, why)), "{path}");
+    }
+    Ok(())
+}

@@ -2,7 +2,7 @@
 use Rattle.std.proofs.Common.{◌+◌, ◌*◌, [], refl, sym, ◌∙◌, arith}
 use Rattle.std.proofs.Math.ListN.{length-set}
 use Rattle.kl_policy.proofs.Decoding.{decoded_none, decoded_more, no_digit_at}
-use Rattle.kl_policy.proofs.line.read_digest.Goals as goal
+use Rattle.kl_policy.proofs.spelling.read_digest.Goals as goal
 
 pub loop-i-init : goal.loop-i-init
 loop-i-init c = (decoded_none c.args.digits.now [], refl)

@@ -1,4 +1,4 @@
-//! The forms in which a policy is written.
+//! The forms in which a runtime policy is written.
 
 /// The form of a policy's text.
 #[derive(Clone, Copy, Debug, PartialEq, Eq)]

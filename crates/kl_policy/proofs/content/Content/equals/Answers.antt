@@ -2,7 +2,7 @@ use Rattle.std.proofs.Common.{rules, ap, sym, ◌∙◌}
 use Rattle.std.proofs.lemmas.Slice.Eq.{bytes_eq-Decides}
 use Rattle.kl_policy.specs.PolicyFields.{PolicyFields}
 use Rattle.kl_policy.proofs.SamePolicy.{same_policy}
-use Rattle.kl_policy.proofs.policy.Policy.equals.Goals as goal
+use Rattle.kl_policy.proofs.content.Content.equals.Goals as goal
 
 pub returns-then-eq : goal.returns-then-eq
 returns-then-eq c =

@@ -4,3 +4,4 @@ pub mod WalkFacts
 pub mod GenuineFacts
 pub mod OutcomeFacts
 pub mod OneOutcome
+pub mod Crosses

@@ -1,5 +1,6 @@
 //! Why terms are refused, and why an appraisal gives no verdict.
 
+use kl_base::Memory;
 use kl_keys::KeysFault;
 
 /// Why no terms were made.
@@ -28,5 +29,16 @@ impl From<KeysFault> for AppraiseError {
 
     fn from(_fault: KeysFault) -> AppraiseError {
         AppraiseError::Keys
+    }
+}
+
+impl From<Memory> for AppraiseError {
+    ghost use Rattle.std.specs.Prelude.{◌≡◌};
+    ghost use Rattle.kl_appraise.specs.declared.fault.AppraiseError.TheVariants.{Memory as no_memory};
+
+    ghost from_gives = { λ _ e. e ≡ no_memory };
+
+    fn from(_refused: Memory) -> AppraiseError {
+        AppraiseError::Memory
     }
 }

@@ -1,6 +1,6 @@
 //! The rules beyond the quote: where the list begins, the static PCRs, and the measurement list.
 
-ghost use Rattle.std.specs.Prelude.{◌≡◌, ◌+◌, ◌*◌, ◌^◌, ◌<◌, ◌≤◌, ℕ, Bool, List, length, count_ones, IfOk, IfErr, IfSome, IsErr};
+ghost use Rattle.std.specs.Prelude.{◌≡◌, ◌+◌, ◌*◌, ◌^◌, ◌<◌, ◌≤◌, ℕ, Bool, List, [], length, count_ones, IfOk, IfErr, IfSome, IsErr, IsOk};
 ghost use Rattle.kl_attest.specs.Grammar.{Quoted};
 ghost use Rattle.kl_bank.specs.Banks.{size_of};
 ghost use Rattle.kl_entry.specs.Entries.{EntryFields};
@@ -22,7 +22,7 @@ use crate::terms::Terms;
 use kl_bank::Bank;
 use kl_entry::{Entry, LineFault};
 use kl_pcr::{Steps, first_wrong, value};
-use kl_policy::Why;
+use kl_policy::{Memory, Why};
 use kl_quote::Evidence;
 use kl_states::{EntryCause, FailedCause, InvalidCause, LineCause, Verdict};
 use std::alloc::Global;
@@ -52,7 +52,7 @@ pub fn judge_list<L: Ledger>(
         → InEachCase terms.now nonce kept evidence.now signed (λ c. JudgesList c t quote.now.values o n))) }
     ensures within { IfOk result (λ o. IsWithin o) }
     ensures memory { IfErr result (λ e. e ≡ AppraiseError.Memory) }
-    ensures idle { IsErr result → steps.new ≡ steps.old }
+    ensures idle { terms.now.policy.patterns ≡ [] → IsErr result → steps.new ≡ steps.old }
     ensures cost { steps.new ≤ steps.old + length (lines_of evidence.now.list) }
     ensures unread { (place : ℕ) (fault : LineFault) → IsFirstBadLine evidence.now.list place fault → steps.new ≡ steps.old }
 {
@@ -74,7 +74,7 @@ pub fn judge_list<L: Ledger>(
     if base.count + entries.len() as u64 > LIST_LIMIT {
         return Ok(failed(FailedCause::ListFull));
     }
-    let verdict = judge_entries(terms, &base, &entries, values, steps);
+    let verdict = judge_entries(alloc, terms, &base, &entries, values, steps)?;
     Ok(Outcome::Verdict(verdict))
 }
 
@@ -112,31 +112,41 @@ fn base_of(bank: Bank, kept: Option<Kept>, start: u64, boot: Boot) -> Result<Bas
 
 /// The verdict on a list of entries that is not too long.
 fn judge_entries<L: Ledger>(
+    alloc: Global,
     terms: &Terms,
     base: &Base,
     entries: &[Entry<'_>],
     values: &[u8],
     steps: &mut Steps<L>,
-) -> Verdict
+) -> Result<Verdict, Memory>
     requires base { length base.now.pcr ≡ size_of terms.now.bank }
     requires values { length values.now ≡ size_of terms.now.bank * count_ones terms.now.mask }
     requires short { base.now.count + length entries.now ≤ LIST_LIMIT }
-    ensures rules { (n : ℕ) × (steps.new ≡ steps.old + n)
-        × JudgesEntries terms.now base.now entries.now (value_at terms.now.bank terms.now.mask values.now LIST_PCR) result n }
+    ensures rules { IfOk result (λ verdict. (n : ℕ) × (steps.new ≡ steps.old + n)
+        × JudgesEntries terms.now base.now entries.now (value_at terms.now.bank terms.now.mask values.now LIST_PCR) verdict n) }
     ensures cost { steps.new ≤ steps.old + length entries.now }
+    ensures plain { terms.now.policy.patterns ≡ [] → IsOk result }
 {
     let Some(quoted) = value(terms.bank(), terms.mask(), values, LIST_PCR) else {
         unreachable!()
     };
-    match find_cut(terms.bank(), terms.policy(), base, entries, &quoted, steps) {
-        None => Verdict::Failed(FailedCause::Unmatched),
+    match find_cut(
+        alloc,
+        terms.bank(),
+        terms.policy(),
+        base,
+        entries,
+        &quoted,
+        steps,
+    )? {
+        None => Ok(Verdict::Failed(FailedCause::Unmatched)),
         Some(
             Cut {
                 bad: Some((place, why)),
                 ..
             },
-        ) => Verdict::Failed(FailedCause::Entry(base.count + place as u64, entry_cause(why))),
-        Some(Cut { entries, bad: None }) => Verdict::Pass(base.count + entries as u64),
+        ) => Ok(Verdict::Failed(FailedCause::Entry(base.count + place as u64, entry_cause(why)))),
+        Some(Cut { entries, bad: None }) => Ok(Verdict::Pass(base.count + entries as u64)),
     }
 }
 

@@ -1,6 +1,6 @@
 //! The appraisal of evidence that may continue a kept list.
 
-ghost use Rattle.std.specs.Prelude.{◌≡◌, ◌⊎◌, ◌+◌, ◌*◌, ◌≤◌, ℕ, count_ones, IfOk, IfSome, IsErr, IsErrOf, None, Some, length, false};
+ghost use Rattle.std.specs.Prelude.{◌≡◌, ◌⊎◌, ◌+◌, ◌*◌, ◌≤◌, ℕ, [], count_ones, IfOk, IfSome, IsErr, IsErrOf, None, Some, length, false};
 ghost use Rattle.kl_bank.specs.Banks.{size_of};
 ghost use Rattle.kl_entry.specs.Lines.{lines_of};
 ghost use Rattle.kl_entry.specs.declared.fault.LineFault.{LineFault};
@@ -75,8 +75,9 @@ pub fn appraise_onto<Y: Keys, L: Ledger>(
     // Exactly so many entries are measured.
     ensures measured { IfOk result (λ found. (n : ℕ) × (steps.new ≡ steps.old + n)
         × InEachCase terms.now nonce.now kept evidence.now found.signed (λ c. Measures c found.outcome n)) }
-    // None is, where there is no outcome.
-    ensures idle { IsErr result → steps.new ≡ steps.old }
+    // None is, where there is no outcome; but memory may run out late where exclude patterns are searched for.
+    ensures idle { IsErrOf result AppraiseError.Keys → steps.new ≡ steps.old }
+    ensures plain { terms.now.policy.patterns ≡ [] → IsErr result → steps.new ≡ steps.old }
     // At most as many are as the list has lines, and none where a line is no entry.
     ensures cost { steps.new ≤ steps.old + length (lines_of evidence.now.list) }
     ensures unread { (place : ℕ) (fault : LineFault) → IsFirstBadLine evidence.now.list place fault → steps.new ≡ steps.old }

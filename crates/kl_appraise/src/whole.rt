@@ -1,6 +1,6 @@
 //! The appraisal of a measurement list from its begin on.
 
-ghost use Rattle.std.specs.Prelude.{◌≡◌, ◌⊎◌, ◌+◌, ◌≤◌, ℕ, IfOk, IsOkAnd, IsErrOf, None, Some, length, false};
+ghost use Rattle.std.specs.Prelude.{◌≡◌, ◌⊎◌, ◌+◌, ◌≤◌, ℕ, [], IsErr, IfOk, IsOkAnd, IsErrOf, None, Some, length, false};
 ghost use Rattle.kl_entry.specs.Lines.{lines_of};
 ghost use Rattle.kl_entry.specs.declared.fault.LineFault.{LineFault};
 ghost use Rattle.kl_io.specs.Calls.{HasCause};
@@ -86,8 +86,10 @@ pub fn appraise_whole<Y: Keys, L: Ledger>(
     // Exactly so many entries are measured.
     ensures measured { IfOk result (λ judged. (n : ℕ) × (steps.new ≡ steps.old + n)
         × Measures (whole_case terms.now nonce.now evidence.now judged.signed) (Outcome.Verdict judged.verdict) n) }
-    // None is, unless there is a verdict that the list's replay decides, by one of rules 15 to 17.
-    ensures idle { IsOkAnd result (λ judged. IsReplayed judged.verdict) ⊎ (steps.new ≡ steps.old) }
+    // None is, unless there is a verdict that the list's replay decides, by one of rules 15 to 17; but memory may run
+    // out late where exclude patterns are searched for.
+    ensures idle { IsErrOf result AppraiseError.Memory ⊎ (IsOkAnd result (λ judged. IsReplayed judged.verdict) ⊎ (steps.new ≡ steps.old)) }
+    ensures plain { terms.now.policy.patterns ≡ [] → IsErr result → steps.new ≡ steps.old }
     // At most as many are as the list has lines.
     ensures cost { steps.new ≤ steps.old + length (lines_of evidence.now.list) }
     // None is, where a line is no entry.

@@ -1,5 +1,5 @@
 -- What the appraisal of a poll's evidence finds.
-use Rattle.std.specs.Prelude.{◌≡◌, Bool, false, List, take, Option, Some, None}
+use Rattle.std.specs.Prelude.{◌≡◌, ℕ, [], Bool, false, List, take, Option, Some, None}
 use Rattle.kl_attest.specs.Grammar.{Quoted}
 use Rattle.kl_entry.specs.Entries.{EntryFields}
 use Rattle.kl_keys.specs.Told.{KeysTold}
@@ -54,3 +54,10 @@ abbrev pub IsBlamed : DropWhy → KeysTold → KeysTold → TicketFields → Evi
 IsBlamed Keys old new t e = (¬ IsUnasked (check_under t.terms t.nonce e false)) × Asked old new t.terms.ak e.quote None
 IsBlamed Memory old new t e = new.calls.faults ≡ old.calls.faults
 IsBlamed End old new t e = ⊥
+
+-- How many entries were measured where there is no outcome: none at a fault of the key object, and none for want of memory where the
+-- policy has no exclude patterns.
+abbrev pub IsIdle : DropWhy → TicketFields → ℕ → ℕ → Type 0
+IsIdle Keys t before after = after ≡ before
+IsIdle Memory t before after = t.terms.policy.patterns ≡ [] → after ≡ before
+IsIdle End t before after = ⊥

@@ -1,12 +1,12 @@
 //! The appraisal of a poll's evidence.
 
-ghost use Rattle.std.specs.Prelude.{◌≡◌, ◌⊎◌, ◌+◌, ◌≤◌, IfOk, IfErr, IsErr, length, Some, None, false};
+ghost use Rattle.std.specs.Prelude.{◌≡◌, ◌⊎◌, ◌+◌, ◌≤◌, IfOk, IfErr, length, Some, None, false};
 ghost use Rattle.kl_io.specs.Calls.{HasCause};
 ghost use Rattle.kl_entry.specs.Lines.{lines_of};
 ghost use Rattle.kl_appraise.specs.Asking.{Asked, AskedOnce};
 ghost use Rattle.kl_appraise.specs.Evidence.{check_under};
 ghost use Rattle.kl_appraise.specs.QuoteRules.{IsAnswered, IsUnasked};
-ghost use Rattle.kl_incr.specs.Appraisal.{IsBlamed};
+ghost use Rattle.kl_incr.specs.Appraisal.{IsBlamed, IsIdle};
 
 use crate::appraised::Appraised;
 use crate::ticket::Ticket;
@@ -47,9 +47,10 @@ pub fn appraise_from<Y: Keys, L: Ledger>(
     ensures unasked { (keys.new ≡ keys.old) ⊎ (¬ (IsUnasked (check_under ticket.terms ticket.nonce evidence false))) }
     ensures once { (keys.new ≡ keys.old) ⊎ AskedOnce (Y.told keys.old) (Y.told keys.new) ticket.terms.ak evidence.quote }
     ensures told { (Y.told keys.new).relations ≡ (Y.told keys.old).relations }
-    // At most as many entries are measured as the reply's list has lines, and none where there is no outcome.
+    // At most as many entries are measured as the reply's list has lines, and none where there is no outcome, unless
+    // memory ran out while exclude patterns were searched for.
     ensures cost { steps.new ≤ steps.old + length (lines_of evidence.list) }
-    ensures idle { IsErr result → steps.new ≡ steps.old }
+    ensures idle { IfErr result (λ e. IsIdle e.1 ticket steps.old steps.new) }
 {
     let kept = ticket.kept();
     match appraise_onto(

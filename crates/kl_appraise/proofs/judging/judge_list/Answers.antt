@@ -85,7 +85,7 @@ returns-then-base-len-gt-LIST_LIMIT-clause-rules g c = (
 
 pub returns-clause-rules : goal.returns-clause-rules
 returns-clause-rules g c =
-    let (n, cost, judged) = c.judge_entries-verdict.ensures.rules in (
+    let (n, cost, judged) = c.in_ok-verdict.ensures.rules in (
       n,
       cost,
       λ nonce signed t attests prefix boot stands.
@@ -97,17 +97,27 @@ returns-clause-rules g c =
           let count = c.in-Ok.ensures.base.count in
           let short : c.args.evidence.now.start + length c.in-Ok-read_entries.entries.items ≤ list_limit = omega arith in
           let terms = c.args.terms.now in
-          let here = subst (λ (es : List EntryFields). JudgesEntries terms c.in-Ok.base es (value_at terms.bank terms.mask c.as_slice-values.result.now 10) c.judge_entries-verdict.result n) c.deref.ensures.value judged in
-          let there = subst (λ (vs : List ℕ). JudgesEntries terms c.in-Ok.base c.in-Ok-read_entries.entries.items (value_at terms.bank terms.mask vs 10) c.judge_entries-verdict.result n) c.as_slice-values.ensures here in
-          by_entries case t c.in-Ok.base c.args.quote.now.values c.in-Ok-read_entries.entries.items c.judge_entries-verdict.result n count behind attests c.requires.values right are short there,
+          let here = subst (λ (es : List EntryFields). JudgesEntries terms c.in-Ok.base es (value_at terms.bank terms.mask c.as_slice-values.result.now 10) c.in_ok-verdict.verdict n) c.deref.ensures.value judged in
+          let there = subst (λ (vs : List ℕ). JudgesEntries terms c.in-Ok.base c.in-Ok-read_entries.entries.items (value_at terms.bank terms.mask vs 10) c.in_ok-verdict.verdict n) c.as_slice-values.ensures here in
+          by_entries case t c.in-Ok.base c.args.quote.now.values c.in-Ok-read_entries.entries.items c.in_ok-verdict.verdict n count behind attests c.requires.values right are short there,
     )
 
 pub returns-clause-cost : goal.returns-clause-cost
 returns-clause-cost g c =
     let are = subst (λ (x : List ℕ). AreEntries x c.in-Ok-read_entries.entries.items) c.as_str.ensures c.in-Ok-read_entries.ensures.entries in
-    omega (arith, c.judge_entries-verdict.ensures.cost, ap length c.deref.ensures.value, line_count c.args.evidence.now.list c.in-Ok-read_entries.entries.items are)
+    omega (arith, c.judge_entries.ensures.cost, ap length c.deref.ensures.value, line_count c.args.evidence.now.list c.in-Ok-read_entries.entries.items are)
 
 pub returns-clause-unread : goal.returns-clause-unread
 returns-clause-unread g c = λ place fault bad.
+    let are = subst (λ (x : List ℕ). AreEntries x c.in-Ok-read_entries.entries.items) c.as_str.ensures c.in-Ok-read_entries.ensures.entries in
+    absurd (no_bad_line c.args.evidence.now.list c.in-Ok-read_entries.entries.items are place fault bad)
+
+pub returns-in_err-verdict-clause-cost : goal.returns-in_err-verdict-clause-cost
+returns-in_err-verdict-clause-cost g c =
+    let are = subst (λ (x : List ℕ). AreEntries x c.in-Ok-read_entries.entries.items) c.as_str.ensures c.in-Ok-read_entries.ensures.entries in
+    omega (arith, c.judge_entries.ensures.cost, ap length c.deref.ensures.value, line_count c.args.evidence.now.list c.in-Ok-read_entries.entries.items are)
+
+pub returns-in_err-verdict-clause-unread : goal.returns-in_err-verdict-clause-unread
+returns-in_err-verdict-clause-unread g c = λ place fault bad.
     let are = subst (λ (x : List ℕ). AreEntries x c.in-Ok-read_entries.entries.items) c.as_str.ensures c.in-Ok-read_entries.ensures.entries in
     absurd (no_bad_line c.args.evidence.now.list c.in-Ok-read_entries.entries.items are place fault bad)

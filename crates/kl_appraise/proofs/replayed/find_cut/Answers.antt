@@ -1,8 +1,9 @@
 -- One more entry is measured, extended and looked at.
-use Rattle.std.proofs.Common.{◌≡◌, ◌≢◌, ℕ, ◌+◌, ◌<◌, length, take, refl, sym, ◌∙◌, subst, inl, inr, arith, rules}
+use Rattle.std.proofs.Common.{◌≡◌, ◌≢◌, ℕ, ◌+◌, ◌<◌, length, take, refl, sym, ap, ◌∙◌, subst, inl, inr, arith, rules}
 use Rattle.std.proofs.lemmas.Bool.{cases_lt, false≢true}
 use Rattle.kl_policy.specs.Policy.{IsFirstBad}
-use Rattle.kl_appraise.specs.Inner.Listed.{GivesValue}
+use Rattle.kl_policy.specs.PolicyFields.{PolicyFields}
+use Rattle.kl_appraise.specs.Inner.Listed.{GivesValue, with_next}
 use Rattle.kl_appraise.proofs.WalkFacts.{value_more, bad_more}
 use Rattle.kl_appraise.proofs.replayed.find_cut.Goals as goal
 
@@ -31,6 +32,7 @@ loop-i-init g c = record {
       false≢true (sym c.if-is_given.false ∙ c.is_given.ensures.1 (some, here));
   bad = λ k d below. absurd (omega arith);
   cost = omega arith;
+  same = c.new-judge.ensures;
 }
 
 pub returns-then-eq-clause-found : goal.returns-then-eq-clause-found
@@ -49,7 +51,8 @@ returns-then-eq-clause-found g c =
 pub returns-then-eq-clause-bad : goal.returns-then-eq-clause-bad
 returns-then-eq-clause-bad g c =
     let within : c.loop-i.i < length c.args.entries.now = omega arith in
-    subst (IsFirstBad c.args.policy.now (take (c.loop-i.i + 1) c.args.entries.now)) (sym c.first_bad-bad.ensures)
+    subst (IsFirstBad c.args.policy.now (take (c.loop-i.i + 1) c.args.entries.now))
+    (sym (c.in_ok-bad.ensures.bad ∙ ap (λ (p : PolicyFields). with_next p c.loop-i.bad c.loop-i.i c.index-entries-i.result) c.loop-i.invariant.same))
     (bad_more c.args.policy.now c.args.entries.now c.loop-i.i c.index-entries-i.result c.loop-i.bad within c.index-entries-i.is c.loop-i.invariant.bad)
 
 pub loop-i-preserved : goal.loop-i-preserved
@@ -66,7 +69,9 @@ loop-i-preserved g c =
         | inr above ↦ let last : n ≡ c.loop-i.i + 1 = omega arith in
             λ gives. other (value ∙ subst (λ (k : ℕ). GivesValue c.args.bank c.args.base.now c.args.entries.now c.args.quoted.now k) last gives)
       ];
-      bad = subst (IsFirstBad c.args.policy.now (take (c.loop-i.i + 1) c.args.entries.now)) (sym c.first_bad-bad.ensures)
+      bad = subst (IsFirstBad c.args.policy.now (take (c.loop-i.i + 1) c.args.entries.now))
+          (sym (c.in_ok-bad.ensures.bad ∙ ap (λ (p : PolicyFields). with_next p c.loop-i.bad c.loop-i.i c.index-entries-i.result) c.loop-i.invariant.same))
           (bad_more c.args.policy.now c.args.entries.now c.loop-i.i c.index-entries-i.result c.loop-i.bad within c.index-entries-i.is c.loop-i.invariant.bad);
       cost = omega (arith, c.measured_with.ensures.cost, c.loop-i.invariant.cost);
+      same = c.first_bad.ensures.same ∙ c.loop-i.invariant.same;
     }

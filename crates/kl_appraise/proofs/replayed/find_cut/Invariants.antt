@@ -13,5 +13,6 @@ invariant-loop-i g l = record {
   sized : length l.held ≡ size_of l.bank;
   none : NoneGives l.bank l.base l.entries l.quoted l.i;
   bad : IsFirstBad l.policy (take l.i l.entries) l.bad;
+  same : l.judge ≡ l.policy;
   cost : l.steps ≡ l.initial.steps + l.i;
 }

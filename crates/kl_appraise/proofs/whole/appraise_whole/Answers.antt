@@ -38,4 +38,4 @@ returns-clause-idle g c =
     let (n, cost, measured) = c.in_ok-found.ensures.measured in
     let case = whole_case c.args.terms.now c.args.nonce.now c.args.evidence.now c.in_ok-found.found.signed in
     let here = subst (λ (o : Outcome). Measures case o n) c.in-Verdict.is (measured [] _ refl) in
-    elim (measured_none case c.in-Verdict.verdict n here) [ inl replayed ↦ inl replayed | inr none ↦ inr (omega (arith, cost, none)) ]
+    inr (elim (measured_none case c.in-Verdict.verdict n here) [ inl replayed ↦ inl replayed | inr none ↦ inr (omega (arith, cost, none)) ])

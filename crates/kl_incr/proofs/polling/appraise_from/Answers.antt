@@ -1,4 +1,4 @@
-use Rattle.std.proofs.Common.{◌≡◌, ◌⊎◌, Bool, false, Some, None, sym, ap, subst, rules}
+use Rattle.std.proofs.Common.{◌≡◌, ◌⊎◌, Bool, false, Some, None, refl, sym, ap, ◌∙◌, subst, rules}
 use Rattle.kl_appraise.specs.Asking.{Asked, AskedOnce}
 use Rattle.kl_appraise.specs.Evidence.{check_under}
 use Rattle.kl_appraise.specs.Kept.{InEachCase, IsNext}
@@ -79,3 +79,9 @@ returns-clause-unasked g c =
     let t = c.args.ticket in
     move (λ terms nonce kept. (c.appraise_onto.new.keys ≡ c.args.keys.now) ⊎ (¬ (IsUnasked (check_under terms nonce e false))))
     c.terms.result.now t.terms c.nonce.result.now t.nonce c.kept-kept.result t.kept c.terms.ensures c.nonce.ensures c.kept-kept.ensures.value c.in-Err-Memory.ensures.unasked
+
+pub returns-in-Err-Keys-clause-idle : goal.returns-in-Err-Keys-clause-idle
+returns-in-Err-Keys-clause-idle g c = c.in-Err-Keys.ensures.idle (search (rules, c.in-Err-Keys.is, c.in-Err-Keys.field-0-is))
+
+pub returns-clause-idle : goal.returns-clause-idle
+returns-clause-idle g c = λ none. c.in-Err-Memory.ensures.plain (ap (λ (t : TermsFields). t.policy.patterns) c.terms.ensures ∙ none) refl

@@ -1,6 +1,6 @@
 use Rattle.std.proofs.Common.{rules, ◌+◌, arith, ap, refl}
 use Rattle.kl_history.specs.Records.{past_of}
-use Rattle.kl_core.proofs.Growing.{in_order, book_begun, book_roomier}
+use Rattle.kl_core.proofs.Growing.{in_order, book_begun, book_roomier, next_is_free}
 use Rattle.kl_core.proofs.Standing.{current_of, next_ticket}
 use Rattle.kl_core.proofs.book.Book.begin.Goals as goal
 
@@ -42,3 +42,8 @@ returns-clause-answer c =
     (rw c.self.view_is c.in_ok-entry.ensures.bytes)
     (ap (λ n. n + 1) c.self.invariant.begun_is)
     (rw c.self.view_is c.in_ok-terms.ensures.ok))
+
+pub put_opening-requires : goal.put_opening-requires
+put_opening-requires c =
+    let b = c.self.inside in
+    next_is_free b.records.items (past_of b.records.items) b.agents b.polls b.drawn b.begun b.weight _ c.self.invariant

@@ -1,6 +1,6 @@
-use Rattle.std.proofs.Common.{rules, arith}
+use Rattle.std.proofs.Common.{rules, refl, arith}
 use Rattle.kl_history.specs.Records.{past_of}
-use Rattle.kl_core.proofs.Growing.{in_order, book_changed}
+use Rattle.kl_core.proofs.Growing.{in_order, book_changed, book_roomier}
 use Rattle.kl_core.proofs.book.Book.replace.Goals as goal
 
 pub invariant_of-self-3 : goal.invariant_of-self-3
@@ -17,3 +17,15 @@ invariant_of-self-3 c =
     (rw c.self.view_is c.in-Ok.ensures.room)
     (rw c.self.view_is c.in-Ok.ensures.bytes)
     (omega (arith, c.in-Ok-reserve.ensures.ok))))
+
+pub invariant_of-self-2 : goal.invariant_of-self-2
+invariant_of-self-2 c =
+    let b = c.self.inside in
+    rw c.reserve.ensures.items
+    (book_roomier b.records.items (past_of b.records.items) b.agents b.polls b.polls b.drawn b.begun b.weight _ _ c.self.invariant refl (omega (arith, c.reserve.ensures.capacity, c.self.invariant.room)))
+
+pub invariant_of-self-in-Err-changed_terms : goal.invariant_of-self-in-Err-changed_terms
+invariant_of-self-in-Err-changed_terms c =
+    let b = c.self.inside in
+    rw c.reserve.ensures.items
+    (book_roomier b.records.items (past_of b.records.items) b.agents b.polls b.polls b.drawn b.begun b.weight _ _ c.self.invariant refl (omega (arith, c.reserve.ensures.capacity, c.self.invariant.room)))

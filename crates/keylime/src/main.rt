@@ -4,6 +4,7 @@
 mod starting;
 
 use crate::starting::{NoWords, start};
+use kl_exclude::StdMaker;
 use kl_io::{StdSink, StdSource, StdWords};
 use kl_keys::MacKeys;
 use std::alloc::Global;
@@ -24,12 +25,13 @@ fn main(rt: HostRuntime) -> ExitCode {
     let mut script = StdSource::new(rt.stdin());
     let mut out = StdSink::new(rt.stdout());
     let mut nonces = StdWords::new(&rt);
-    let status = start::<_, _, _, _, Brand>(
+    let status = start::<_, _, _, _, _, Brand>(
         alloc,
         words_of(alloc, &rt),
         &mut script,
         &mut out,
         &mut keys,
+        &mut StdMaker::new(),
         &mut nonces,
         Blank::new(1),
     );

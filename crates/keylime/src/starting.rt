@@ -7,6 +7,7 @@ ghost use Rattle.kl_console.specs.Run.{moment, EndsAs};
 ghost use Rattle.keylime.specs.Starting.{Says, IsOtherWords, status_without};
 
 use kl_console::{is_only_word, run_counted};
+use kl_exclude::PatternMaker;
 use kl_io::{Sink, Source, Words};
 use kl_keys::Keys;
 use std::alloc::Global;
@@ -24,13 +25,13 @@ usage: keylime run < script
 
 A line of a script is a command, or is empty or begins with # and prints nothing. The commands are
 
-  add <agent> <contact> <bank> <mask> <statics> <ak> <v> flat <policy>
-  replace <agent> flat <policy>     reactivate <agent>
+  add <agent> <contact> <bank> <mask> <statics> <ak> <v> <kind> <policy>
+  replace <agent> <kind> <policy>   reactivate <agent>
   stop <agent>                      remove <agent>
   begin <agent> [<nonce>]           reply <poll> <bank> <start> <public> <quote> <list>
   state <agent>                     now <milliseconds>
 
-A begin without a nonce draws one. examples/ has scripts, and beside each what it prints; docs/FORMATS.md has the formats.
+A kind of policy is flat or json. A begin without a nonce draws one. examples/ has scripts, and beside each what it prints; docs/FORMATS.md has the formats.
 
 status
    0  the script was read to its end, and every line was executed and printed
@@ -71,12 +72,13 @@ pub enum NoWords {
 ///
 /// `--help` and `--version`, each as the only word, are answered on the output. All other words are handed over to
 /// `kl_console::run_counted`, which knows the word `run` alone.
-pub fn start<S: Source, K: Sink, Y: Keys, N: Words, L: Ledger>(
+pub fn start<S: Source, K: Sink, Y: Keys, P: PatternMaker, N: Words, L: Ledger>(
     alloc: Global,
     words: Result<Vec<String>, NoWords>,
     script: &mut S,
     out: &mut K,
     keys: &mut Y,
+    patterns: &mut P,
     nonces: &mut N,
     blank: Blank,
 ) -> u8
@@ -88,24 +90,26 @@ pub fn start<S: Source, K: Sink, Y: Keys, N: Words, L: Ledger>(
     ensures version { IfOk words (λ w. map string_bytes w.items ≡ codes "--version" ∷ []
         → Says (K.told out.old) (K.told out.new) VERSION.now result × (script.new ≡ script.old)) }
     ensures run { IfOk words (λ w. map string_bytes w.items ≡ codes "run" ∷ []
-        → ((steps : ℕ) × (H : History) × EndsAs (moment (S.told script.old) (K.told out.old) (outside (Y.told keys.old) (N.told nonces.old) 0))
-        (moment (S.told script.new) (K.told out.new) (outside (Y.told keys.new) (N.told nonces.new) steps)) result H) × (result ≢ 2)) }
+        → ((steps : ℕ) × (H : History) × EndsAs (moment (S.told script.old) (K.told out.old) (outside (Y.told keys.old) (N.told nonces.old) (P.told patterns.old) 0))
+        (moment (S.told script.new) (K.told out.new) (outside (Y.told keys.new) (N.told nonces.new) (P.told patterns.new) steps)) result H) × (result ≢ 2)) }
     ensures other { IfOk words (λ w. IsOtherWords (map string_bytes w.items) → result ≡ 2) }
     // At 2 nothing was read, written, asked or drawn.
     ensures unread { result ≡ 2 → script.new ≡ script.old }
     ensures unwritten { result ≡ 2 → out.new ≡ out.old }
     ensures unasked { result ≡ 2 → keys.new ≡ keys.old }
+    ensures unmade { result ≡ 2 → patterns.new ≡ patterns.old }
     ensures undrawn { result ≡ 2 → nonces.new ≡ nonces.old }
     ensures none { IfErr words (λ why. (result ≡ status_without why) × (script.new ≡ script.old) × (out.new ≡ out.old)
-        × (keys.new ≡ keys.old) × (nonces.new ≡ nonces.old)) }
+        × (keys.new ≡ keys.old) × (patterns.new ≡ patterns.old) × (nonces.new ≡ nonces.old)) }
 {
     match words {
-        Ok(words) => answer::<_, _, _, _, L>(
+        Ok(words) => answer::<_, _, _, _, _, L>(
             alloc,
             words.as_slice(),
             script,
             out,
             keys,
+            patterns,
             nonces,
             blank,
         ),
@@ -115,12 +119,13 @@ pub fn start<S: Source, K: Sink, Y: Keys, N: Words, L: Ledger>(
 }
 
 /// Does what these words say.
-fn answer<S: Source, K: Sink, Y: Keys, N: Words, L: Ledger>(
+fn answer<S: Source, K: Sink, Y: Keys, P: PatternMaker, N: Words, L: Ledger>(
     alloc: Global,
     words: &[String],
     script: &mut S,
     out: &mut K,
     keys: &mut Y,
+    patterns: &mut P,
     nonces: &mut N,
     blank: Blank,
 ) -> u8
@@ -132,12 +137,13 @@ fn answer<S: Source, K: Sink, Y: Keys, N: Words, L: Ledger>(
     ensures version { map string_bytes words.now ≡ codes "--version" ∷ []
         → Says (K.told out.old) (K.told out.new) VERSION.now result × (script.new ≡ script.old) }
     ensures run { map string_bytes words.now ≡ codes "run" ∷ []
-        → ((steps : ℕ) × (H : History) × EndsAs (moment (S.told script.old) (K.told out.old) (outside (Y.told keys.old) (N.told nonces.old) 0))
-        (moment (S.told script.new) (K.told out.new) (outside (Y.told keys.new) (N.told nonces.new) steps)) result H) × (result ≢ 2) }
+        → ((steps : ℕ) × (H : History) × EndsAs (moment (S.told script.old) (K.told out.old) (outside (Y.told keys.old) (N.told nonces.old) (P.told patterns.old) 0))
+        (moment (S.told script.new) (K.told out.new) (outside (Y.told keys.new) (N.told nonces.new) (P.told patterns.new) steps)) result H) × (result ≢ 2) }
     ensures other { IsOtherWords (map string_bytes words.now) → result ≡ 2 }
     ensures unread { result ≡ 2 → script.new ≡ script.old }
     ensures unwritten { result ≡ 2 → out.new ≡ out.old }
     ensures unasked { result ≡ 2 → keys.new ≡ keys.old }
+    ensures unmade { result ≡ 2 → patterns.new ≡ patterns.old }
     ensures undrawn { result ≡ 2 → nonces.new ≡ nonces.old }
 {
     if is_only_word(words, "--help") {
@@ -146,7 +152,7 @@ fn answer<S: Source, K: Sink, Y: Keys, N: Words, L: Ledger>(
     if is_only_word(words, "--version") {
         return say(out, VERSION);
     }
-    run_counted::<_, _, _, _, L>(alloc, words, script, out, keys, nonces, blank)
+    run_counted::<_, _, _, _, _, L>(alloc, words, script, out, keys, patterns, nonces, blank)
 }
 
 /// Writes a text, and answers the status of that.

@@ -8,6 +8,7 @@ ghost use Rattle.std.specs.Prelude.{◌≡◌, ◌≤◌};
 
 use anyhow::{Result, bail};
 use kl_console::run_counted;
+use kl_exclude::{PatternMaker, StdMaker};
 use kl_io::{MemSink, MemSource, MemWords, Sink, Source, Words};
 use kl_keys::{Keys, MacKeys};
 use std::alloc::{AllocError, Global};
@@ -112,12 +113,13 @@ fn play<R: Print + AllocGlobal>(rt: &R, case: Case) -> Result<()> {
     let mut script = MemSource::new(alloc, case.script.into_bytes(), &[])?;
     let mut out = MemSink::new(alloc, ROOM, &[])?;
     let words = vec![in alloc; String::from_str(alloc, "run")?]?;
-    let status = run_alone::<_, _, _, _, Brand>(
+    let status = run_alone::<_, _, _, _, _, Brand>(
         alloc,
         &words,
         &mut script,
         &mut out,
         &mut keys,
+        &mut StdMaker::new(),
         &mut nonces,
         Blank::new(1),
     );
@@ -144,12 +146,13 @@ fn keys_of(alloc: Global, fault: Option<u64>) -> Result<MacKeys, kl_keys::Memory
 }
 
 /// Runs a script as `run_counted` does. It promises nothing, so that `play` carries no law of a run: its output is compared.
-fn run_alone<S: Source, K: Sink, Y: Keys, N: Words, L: Ledger>(
+fn run_alone<S: Source, K: Sink, Y: Keys, P: PatternMaker, N: Words, L: Ledger>(
     alloc: Global,
     words: &[String],
     script: &mut S,
     out: &mut K,
     keys: &mut Y,
+    patterns: &mut P,
     nonces: &mut N,
     blank: Blank,
 ) -> u8
@@ -157,5 +160,5 @@ fn run_alone<S: Source, K: Sink, Y: Keys, N: Words, L: Ledger>(
     requires parts { blank.parts ≡ L.parts }
     requires some { 1 ≤ blank.parts }
 {
-    run_counted::<_, _, _, _, L>(alloc, words, script, out, keys, nonces, blank)
+    run_counted::<_, _, _, _, _, L>(alloc, words, script, out, keys, patterns, nonces, blank)
 }

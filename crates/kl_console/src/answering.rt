@@ -10,6 +10,7 @@ ghost use Rattle.kl_console.specs.Inner.Turns.{Answers, Performs};
 use crate::ending::End;
 use crate::line_reader::LineReader;
 use crate::printing::{complain, print};
+use kl_exclude::PatternMaker;
 use kl_io::{Sink, Words};
 use kl_keys::Keys;
 use kl_pcr::Steps;
@@ -25,19 +26,20 @@ use std::sync::ledger::Ledger;
 ///
 /// # Errors
 /// How the run ends: `Fault`, `WriteFault`, `NoNonce` or `Memory`.
-pub fn answer<K: Sink, Y: Keys, N: Words, L: Ledger>(
+pub fn answer<K: Sink, Y: Keys, P: PatternMaker, N: Words, L: Ledger>(
     alloc: Global,
     number: u64,
     session: &mut Session,
     reader: &mut LineReader,
     out: &mut K,
     keys: &mut Y,
+    patterns: &mut P,
     nonces: &mut N,
     steps: &mut Steps<L>,
 ) -> Result<(), End>
     requires { length reader.old.line ≤ line_limit }
-    ensures answers { Answers number reader.old.line (outside (Y.told keys.old) (N.told nonces.old) steps.old)
-        (outside (Y.told keys.new) (N.told nonces.new) steps.new) session.old session.new (K.told out.old) (K.told out.new) result }
+    ensures answers { Answers number reader.old.line (outside (Y.told keys.old) (N.told nonces.old) (P.told patterns.old) steps.old)
+        (outside (Y.told keys.new) (N.told nonces.new) (P.told patterns.new) steps.new) session.old session.new (K.told out.old) (K.told out.new) result }
     ensures ahead { reader.new.ahead ≡ reader.old.ahead }
     ensures passed { reader.new.passed ≡ reader.old.passed }
     ensures write { FailsAtLast (K.told out.old).calls (K.told out.new).calls (result ≡ Err End.WriteFault) }
@@ -47,7 +49,7 @@ pub fn answer<K: Sink, Y: Keys, N: Words, L: Ledger>(
     match read_command(alloc, reader.line()) {
         Ok(command) => {
             reader.let_go(alloc);
-            perform(alloc, session, command, out, keys, nonces, steps)
+            perform(alloc, session, command, out, keys, patterns, nonces, steps)
         },
         Err(CommandFault::NoCommand) => {
             complain(alloc, number, out)?;
@@ -61,21 +63,22 @@ pub fn answer<K: Sink, Y: Keys, N: Words, L: Ledger>(
 ///
 /// # Errors
 /// How the run ends: `WriteFault`, `NoNonce` or `Memory`.
-fn perform<K: Sink, Y: Keys, N: Words, L: Ledger>(
+fn perform<K: Sink, Y: Keys, P: PatternMaker, N: Words, L: Ledger>(
     alloc: Global,
     session: &mut Session,
     command: Command,
     out: &mut K,
     keys: &mut Y,
+    patterns: &mut P,
     nonces: &mut N,
     steps: &mut Steps<L>,
 ) -> Result<(), End>
-    ensures performs { Performs (outside (Y.told keys.old) (N.told nonces.old) steps.old) (outside (Y.told keys.new) (N.told nonces.new) steps.new)
+    ensures performs { Performs (outside (Y.told keys.old) (N.told nonces.old) (P.told patterns.old) steps.old) (outside (Y.told keys.new) (N.told nonces.new) (P.told patterns.new) steps.new)
         session.old session.new (fields command) (K.told out.old) (K.told out.new) result }
     ensures write { FailsAtLast (K.told out.old).calls (K.told out.new).calls (result ≡ Err End.WriteFault) }
     ensures read { result ≢ Err End.ReadFault }
     ensures place { (K.told out.new).place ≡ (K.told out.old).place }
 {
-    let text = session.obey(alloc, command, keys, nonces, steps)?;
+    let text = session.obey(alloc, command, keys, patterns, nonces, steps)?;
     print(out, text.as_str())
 }

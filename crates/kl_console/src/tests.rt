@@ -2,6 +2,7 @@ ghost use Rattle.std.specs.Prelude.{◌≡◌, ◌≤◌};
 
 use crate::{run_counted, run_kept};
 use kl_core::{Book, Record};
+use kl_exclude::StdMaker;
 use kl_io::{MemSink, MemSource, MemWords};
 use kl_keys::MacKeys;
 use kl_pcr::Steps;
@@ -79,12 +80,13 @@ fn reads_so(alloc: Global, script: Vec<u8>, case: Case<'_>) -> Result<bool, Fail
     let mut out = MemSink::new(alloc, 4096, puts)?;
     let mut keys = MacKeys::new(alloc, asks)?;
     let mut nonces = MemWords::new(alloc, bytes, draws)?;
-    let status = run_counted::<_, _, _, _, Brand>(
+    let status = run_counted::<_, _, _, _, _, Brand>(
         alloc,
         &words,
         &mut script,
         &mut out,
         &mut keys,
+        &mut StdMaker::new(),
         &mut nonces,
         Blank::new(1),
     );
@@ -218,6 +220,7 @@ fn kept<L: Ledger>(
     script: &mut MemSource,
     out: &mut MemSink,
     keys: &mut MacKeys,
+    patterns: &mut StdMaker,
     nonces: &mut MemWords,
     blank: Blank,
 ) -> (u8, Option<Book>)
@@ -226,7 +229,9 @@ fn kept<L: Ledger>(
     requires some { 1 ≤ blank.parts }
 {
     let mut steps = Steps::<L>::of(blank);
-    run_kept(alloc, words, script, out, keys, nonces, &mut steps)
+    run_kept(
+        alloc, words, script, out, keys, patterns, nonces, &mut steps,
+    )
 }
 
 /// Plays a script in which no call fails, behind an add. The answer is the status, and the book.
@@ -242,6 +247,7 @@ fn kept_alone(alloc: Global, script: &str) -> Result<(u8, Option<Book>), Fail> {
         &mut source,
         &mut out,
         &mut keys,
+        &mut StdMaker::new(),
         &mut nonces,
         Blank::new(1),
     ))

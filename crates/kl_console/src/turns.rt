@@ -12,6 +12,7 @@ use crate::ending::End;
 use crate::line_reader::{Found, LineReader, ReadError};
 use crate::printing::complain;
 use kl_core::Book;
+use kl_exclude::PatternMaker;
 use kl_io::{Sink, Source, Words};
 use kl_keys::Keys;
 use kl_pcr::Steps;
@@ -23,7 +24,7 @@ use std::sync::ledger::Ledger;
 ///
 /// # Errors
 /// How the run ends. It ends well behind the script's last line.
-fn turn<S: Source, K: Sink, Y: Keys, N: Words, L: Ledger>(
+fn turn<S: Source, K: Sink, Y: Keys, P: PatternMaker, N: Words, L: Ledger>(
     alloc: Global,
     number: u64,
     session: &mut Session,
@@ -31,13 +32,14 @@ fn turn<S: Source, K: Sink, Y: Keys, N: Words, L: Ledger>(
     script: &mut S,
     out: &mut K,
     keys: &mut Y,
+    patterns: &mut P,
     nonces: &mut N,
     steps: &mut Steps<L>,
 ) -> Result<(), End>
     ensures plays { (before : Moment)
-        → Played before (moment (S.told script.old) (K.told out.old) (outside (Y.told keys.old) (N.told nonces.old) steps.old))
+        → Played before (moment (S.told script.old) (K.told out.old) (outside (Y.told keys.old) (N.told nonces.old) (P.told patterns.old) steps.old))
         reader.old session.old number
-        → PlaysOn before (moment (S.told script.new) (K.told out.new) (outside (Y.told keys.new) (N.told nonces.new) steps.new))
+        → PlaysOn before (moment (S.told script.new) (K.told out.new) (outside (Y.told keys.new) (N.told nonces.new) (P.told patterns.new) steps.new))
         reader.new session.new number result }
     ensures read { FailsAtLast (S.told script.old).calls (S.told script.new).calls (result ≡ Err End.ReadFault) }
     ensures write { FailsAtLast (K.told out.old).calls (K.told out.new).calls (result ≡ Err End.WriteFault) }
@@ -46,9 +48,13 @@ fn turn<S: Source, K: Sink, Y: Keys, N: Words, L: Ledger>(
         × ((K.told out.new).place ≡ (K.told out.old).place) }
 {
     match reader.next(script) {
-        Ok(Found::Line) => answer(alloc, number, session, reader, out, keys, nonces, steps),
+        Ok(Found::Line) => answer(
+            alloc, number, session, reader, out, keys, patterns, nonces, steps,
+        ),
         Ok(Found::Last) => {
-            answer(alloc, number, session, reader, out, keys, nonces, steps)?;
+            answer(
+                alloc, number, session, reader, out, keys, patterns, nonces, steps,
+            )?;
             Err(End::Done)
         },
         Ok(Found::End) => Err(End::Done),
@@ -62,18 +68,19 @@ fn turn<S: Source, K: Sink, Y: Keys, N: Words, L: Ledger>(
 }
 
 /// Takes turn after turn, from the script's first line on. The answer is how the run ends.
-fn turns<S: Source, K: Sink, Y: Keys, N: Words, L: Ledger>(
+fn turns<S: Source, K: Sink, Y: Keys, P: PatternMaker, N: Words, L: Ledger>(
     alloc: Global,
     session: &mut Session,
     script: &mut S,
     out: &mut K,
     keys: &mut Y,
+    patterns: &mut P,
     nonces: &mut N,
     steps: &mut Steps<L>,
 ) -> End
     requires { session.old ≡ empty }
-    ensures ends { Ends (moment (S.told script.old) (K.told out.old) (outside (Y.told keys.old) (N.told nonces.old) steps.old))
-        (moment (S.told script.new) (K.told out.new) (outside (Y.told keys.new) (N.told nonces.new) steps.new)) session.new result }
+    ensures ends { Ends (moment (S.told script.old) (K.told out.old) (outside (Y.told keys.old) (N.told nonces.old) (P.told patterns.old) steps.old))
+        (moment (S.told script.new) (K.told out.new) (outside (Y.told keys.new) (N.told nonces.new) (P.told patterns.new) steps.new)) session.new result }
     ensures read { FailsAtLast (S.told script.old).calls (S.told script.new).calls (result ≡ End.ReadFault) }
     ensures write { FailsAtLast (K.told out.old).calls (K.told out.new).calls (result ≡ End.WriteFault) }
     ensures places { ((S.told script.new).place ≡ (S.told script.old).place)
@@ -92,6 +99,7 @@ fn turns<S: Source, K: Sink, Y: Keys, N: Words, L: Ledger>(
             script,
             out,
             keys,
+            patterns,
             nonces,
             steps,
         ) {
@@ -103,16 +111,17 @@ fn turns<S: Source, K: Sink, Y: Keys, N: Words, L: Ledger>(
 
 /// Plays a script in a session that begins with nothing. The answer is how the run ends, and the book of the session
 /// with the polls that were open dropped; no book where there was no memory for a session.
-pub fn play<S: Source, K: Sink, Y: Keys, N: Words, L: Ledger>(
+pub fn play<S: Source, K: Sink, Y: Keys, P: PatternMaker, N: Words, L: Ledger>(
     alloc: Global,
     script: &mut S,
     out: &mut K,
     keys: &mut Y,
+    patterns: &mut P,
     nonces: &mut N,
     steps: &mut Steps<L>,
 ) -> (End, Option<Book>)
-    ensures ends { EndsBy (moment (S.told script.old) (K.told out.old) (outside (Y.told keys.old) (N.told nonces.old) steps.old))
-        (moment (S.told script.new) (K.told out.new) (outside (Y.told keys.new) (N.told nonces.new) steps.new)) (history_of result.1) result.0 }
+    ensures ends { EndsBy (moment (S.told script.old) (K.told out.old) (outside (Y.told keys.old) (N.told nonces.old) (P.told patterns.old) steps.old))
+        (moment (S.told script.new) (K.told out.new) (outside (Y.told keys.new) (N.told nonces.new) (P.told patterns.new) steps.new)) (history_of result.1) result.0 }
     ensures none { result.1 ≡ None → result.0 ≡ End.Memory }
     ensures read { FailsAtLast (S.told script.old).calls (S.told script.new).calls (result.0 ≡ End.ReadFault) }
     ensures write { FailsAtLast (K.told out.old).calls (K.told out.new).calls (result.0 ≡ End.WriteFault) }
@@ -122,6 +131,15 @@ pub fn play<S: Source, K: Sink, Y: Keys, N: Words, L: Ledger>(
     let Ok(mut session) = Session::new(alloc) else {
         return (End::Memory, None);
     };
-    let end = turns(alloc, &mut session, script, out, keys, nonces, steps);
+    let end = turns(
+        alloc,
+        &mut session,
+        script,
+        out,
+        keys,
+        patterns,
+        nonces,
+        steps,
+    );
     (end, Some(session.close()))
 }

@@ -1,5 +1,5 @@
 -- The words that a line was cut into, one by one, and what they spell.
-use Rattle.std.proofs.Common.{◌≡◌, ℕ, zero, suc, ◌≤◌, List, [], ◌∷◌, length, get_or, map, codes, refl, sym, ap, subst, ◌∙◌, arith, length-append}
+use Rattle.std.proofs.Common.{◌≡◌, ℕ, zero, suc, ◌≤◌, List, [], ◌∷◌, length, get_or, map, refl, sym, ap, subst, ◌∙◌, arith, length-append}
 use Rattle.std.proofs.Math.ListN.{get_or-map}
 use Rattle.std.proofs.lemmas.List.{length-map}
 use denote.Ref.{Bor}
@@ -10,7 +10,7 @@ use Rattle.kl_script.specs.Digits.{IsKey, IsMask, IsShare}
 use Rattle.kl_script.specs.Statics.{IsStatics}
 use Rattle.kl_script.specs.declared.command.Add.{Add}
 use Rattle.kl_script.specs.declared.command.Replace.{Replace}
-use Rattle.kl_script.specs.Commands.{ReplyFields, SpellsAdd, SpellsAgent, SpellsReplace, SpellsReply}
+use Rattle.kl_script.specs.Commands.{ReplyFields, SpellsAdd, SpellsAgent, SpellsReplace, SpellsReply, kind_word}
 use Rattle.kl_script.proofs.Splitting.{IsSplit-same}
 use Rattle.kl_script.proofs.Escapes.{length-escaped}
 use Rattle.kl_script.proofs.Fields.{length-field}
@@ -70,13 +70,13 @@ pub record AreAddWords (items : List (Bor (List ℕ))) (rest : List ℕ) (said :
   pub statics : IsStatics (word items 4) said.statics
   pub ak : IsKey (word items 5) said.ak
   pub v : IsShare (word items 6) said.v
-  pub kind : word items 7 ≡ codes "flat"
+  pub kind : word items 7 ≡ kind_word said.kind
   pub policy : IsEscaped rest said.policy
 
 pub add_words : {arguments rest : List ℕ} {words items : List (Bor (List ℕ))} (said : Add)
     → items ≡ words → IsSplit arguments 8 (map bytes_of words) rest → SpellsAdd arguments said → AreAddWords items rest said
 add_words {arguments} {rest} {words} {items} said e split s =
-    let expected : List (List ℕ) = said.agent ∷ s.contact ∷ name_of said.bank ∷ s.mask ∷ s.statics ∷ s.ak ∷ s.v ∷ codes "flat" ∷ [] in
+    let expected : List (List ℕ) = said.agent ∷ s.contact ∷ name_of said.bank ∷ s.mask ∷ s.statics ∷ s.ak ∷ s.v ∷ kind_word said.kind ∷ [] in
     let same = IsSplit-same arguments 8 (map bytes_of words) expected rest s.policy split s.split in
     let here : map bytes_of items ≡ expected = ap (map bytes_of) e ∙ same.0 in record {
       agent = (word_at items expected here 0, s.is_agent);
@@ -94,7 +94,7 @@ pub spells_add : {arguments rest : List ℕ} {words items : List (Bor (List ℕ)
     → items ≡ words → IsSplit arguments 8 (map bytes_of words) rest → AreAddWords items rest said → SpellsAdd arguments said
 spells_add {arguments} {rest} {words} {items} said e split w =
     let expected : List (List ℕ) =
-    said.agent ∷ word items 1 ∷ name_of said.bank ∷ word items 3 ∷ word items 4 ∷ word items 5 ∷ word items 6 ∷ codes "flat" ∷ [] in
+    said.agent ∷ word items 1 ∷ name_of said.bank ∷ word items 3 ∷ word items 4 ∷ word items 5 ∷ word items 6 ∷ kind_word said.kind ∷ [] in
     let named : first_words items 8 ≡ expected = cc (w.agent.0, w.bank, w.kind) in record {
       contact = word items 1;
       mask = word items 3;
@@ -116,13 +116,13 @@ spells_add {arguments} {rest} {words} {items} said e split w =
 
 pub record AreReplaceWords (items : List (Bor (List ℕ))) (rest : List ℕ) (said : Replace) : Type 0 where
   pub agent : SpellsAgent (word items 0) said.agent
-  pub kind : word items 1 ≡ codes "flat"
+  pub kind : word items 1 ≡ kind_word said.kind
   pub policy : IsEscaped rest said.policy
 
 pub replace_words : {arguments rest : List ℕ} {words items : List (Bor (List ℕ))} (said : Replace)
     → items ≡ words → IsSplit arguments 2 (map bytes_of words) rest → SpellsReplace arguments said → AreReplaceWords items rest said
 replace_words {arguments} {rest} {words} {items} said e split s =
-    let expected : List (List ℕ) = said.agent ∷ codes "flat" ∷ [] in
+    let expected : List (List ℕ) = said.agent ∷ kind_word said.kind ∷ [] in
     let same = IsSplit-same arguments 2 (map bytes_of words) expected rest s.policy split s.split in
     let here : map bytes_of items ≡ expected = ap (map bytes_of) e ∙ same.0 in record {
       agent = (word_at items expected here 0, s.is_agent);
@@ -133,7 +133,7 @@ replace_words {arguments} {rest} {words} {items} said e split s =
 pub spells_replace : {arguments rest : List ℕ} {words items : List (Bor (List ℕ))} (said : Replace)
     → items ≡ words → IsSplit arguments 2 (map bytes_of words) rest → AreReplaceWords items rest said → SpellsReplace arguments said
 spells_replace {arguments} {rest} {words} {items} said e split w =
-    let named : first_words items 2 ≡ said.agent ∷ codes "flat" ∷ [] = cc (w.agent.0, w.kind) in record {
+    let named : first_words items 2 ≡ said.agent ∷ kind_word said.kind ∷ [] = cc (w.agent.0, w.kind) in record {
       policy = rest;
       split = subst (λ (ws : List (List ℕ)). IsSplit arguments 2 ws rest) named (split_of e split);
       is_agent = w.agent.1;

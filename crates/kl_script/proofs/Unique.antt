@@ -1,5 +1,5 @@
 -- A line spells at most one command.
-use Rattle.std.proofs.Common.{◌≡◌, ◌⊎◌, inl, inr, ℕ, List, [], ◌∷◌, length, get_or, Option, Some, None, Result, Ok, Err, codes}
+use Rattle.std.proofs.Common.{◌≡◌, ◌⊎◌, inl, inr, ℕ, List, [], ◌∷◌, length, get_or, Option, Some, None, Result, Ok, Err}
 use Rattle.std.proofs.Common.{refl, sym, ap, subst, ◌∙◌, arith}
 use Rattle.std.specs.Prelude.{IfOk}
 use Rattle.std.specs.Str.Parse.{digits_value}
@@ -9,6 +9,8 @@ use Rattle.kl_bank.specs.declared.bank.Bank.{Bank}
 use Rattle.kl_bank.specs.declared.bank.Bank.TheVariants.{Sha1, Sha256, Sha384}
 use Rattle.kl_bank.specs.Banks.{name_of}
 use Rattle.kl_pcr.specs.declared.statics.Static.{Static}
+use Rattle.kl_states.specs.declared.policy_kind.PolicyKind.{PolicyKind}
+use Rattle.kl_states.specs.declared.policy_kind.PolicyKind.TheVariants.{Flat, Json}
 use Rattle.kl_script.specs.declared.fault.CommandFault.{CommandFault}
 use Rattle.kl_script.specs.declared.fault.CommandFault.TheVariants.{NoCommand, Memory}
 use Rattle.kl_script.specs.declared.command.Command.{Command}
@@ -18,7 +20,7 @@ use Rattle.kl_script.specs.Statics.{IsStatics}
 use Rattle.kl_script.specs.declared.command.Add.{Add}
 use Rattle.kl_script.specs.declared.command.Begin.{Begin}
 use Rattle.kl_script.specs.declared.command.Replace.{Replace}
-use Rattle.kl_script.specs.Commands.{ReplyFields, CommandFields, fields, SpellsAdd, SpellsBegin, SpellsReplace, SpellsReply, IsBlank, HasForm, Spells, IsRead}
+use Rattle.kl_script.specs.Commands.{ReplyFields, CommandFields, fields, kind_word, SpellsAdd, SpellsBegin, SpellsReplace, SpellsReply, IsBlank, HasForm, Spells, IsRead}
 use Rattle.kl_script.specs.Commands.{nothing, add, replace, reactivate, stop, remove, now, begin, reply, state}
 use Rattle.kl_script.proofs.Splitting.{heads, tails, IsSplit-same}
 use Rattle.kl_script.proofs.Escapes.{IsEscaped-same}
@@ -41,6 +43,12 @@ name_of-same Sha384 Sha1 e = absurd (omega (arith, ap length e))
 name_of-same Sha256 Sha384 e = absurd (omega (arith, ap (λ (t : List ℕ). get_or t 3 0) e))
 name_of-same Sha384 Sha256 e = absurd (omega (arith, ap (λ (t : List ℕ). get_or t 3 0) e))
 
+kind_word-same : (a b : PolicyKind) → kind_word a ≡ kind_word b → a ≡ b
+kind_word-same Flat Flat e = refl
+kind_word-same Json Json e = refl
+kind_word-same Flat Json e = absurd (omega (arith, ap (λ (t : List ℕ). get_or t 0 0) e))
+kind_word-same Json Flat e = absurd (omega (arith, ap (λ (t : List ℕ). get_or t 0 0) e))
+
 IsMask-same : (written : List ℕ) (m n : ℕ) → IsMask written m → IsMask written n → m ≡ n
 IsMask-same written m n g h =
     let digits : g.0 ≡ h.0 = tails (tails (sym g.1 ∙ h.1)) in
@@ -59,8 +67,8 @@ IsNumber-same written m n g h = decimal_injective m n g.0 h.0 (sym g.1 ∙ h.1)
 
 SpellsAdd-same : (arguments : List ℕ) (a b : Add) → SpellsAdd arguments a → SpellsAdd arguments b → a ≡ b
 SpellsAdd-same arguments a b s t =
-    let expected : List (List ℕ) = a.agent ∷ s.contact ∷ name_of a.bank ∷ s.mask ∷ s.statics ∷ s.ak ∷ s.v ∷ codes "flat" ∷ [] in
-    let others : List (List ℕ) = b.agent ∷ t.contact ∷ name_of b.bank ∷ t.mask ∷ t.statics ∷ t.ak ∷ t.v ∷ codes "flat" ∷ [] in
+    let expected : List (List ℕ) = a.agent ∷ s.contact ∷ name_of a.bank ∷ s.mask ∷ s.statics ∷ s.ak ∷ s.v ∷ kind_word a.kind ∷ [] in
+    let others : List (List ℕ) = b.agent ∷ t.contact ∷ name_of b.bank ∷ t.mask ∷ t.statics ∷ t.ak ∷ t.v ∷ kind_word b.kind ∷ [] in
     let same = IsSplit-same arguments 8 expected others s.policy t.policy s.split t.split in
     let e0 = same.0 in
     let e1 = tails e0 in
@@ -77,22 +85,25 @@ SpellsAdd-same arguments a b s t =
     IsStatics-same t.statics a.statics b.statics (subst (λ w. IsStatics w a.statics) (heads e4) s.is_statics) t.is_statics in
     let ak : a.ak ≡ b.ak = decode_of-same t.ak a.ak b.ak (subst (λ w. IsKey w a.ak) (heads e5) s.is_ak).2 t.is_ak.2 in
     let v : a.v ≡ b.v = IsShare-same t.v a.v b.v (subst (λ w. IsShare w a.v) (heads e6) s.is_v) t.is_v in
+    let kind : a.kind ≡ b.kind = kind_word-same a.kind b.kind (heads (tails e6)) in
     let policy : a.policy ≡ b.policy = IsEscaped-same t.policy a.policy b.policy (subst (λ w. IsEscaped w a.policy) same.1 s.is_policy) t.is_policy in
-    let made : List ℕ → List ℕ → Bank → ℕ → List Static → List ℕ → Option (List ℕ) → List ℕ → Add =
-    λ agent contact bank mask statics ak v policy.
-    record { agent = agent; contact = contact; bank = bank; mask = mask; statics = statics; ak = ak; v = v; policy = policy } in
-    let whole : made a.agent a.contact a.bank a.mask a.statics a.ak a.v a.policy ≡ made b.agent b.contact b.bank b.mask b.statics b.ak b.v b.policy = cc in
+    let made : List ℕ → List ℕ → Bank → ℕ → List Static → List ℕ → Option (List ℕ) → PolicyKind → List ℕ → Add =
+    λ agent contact bank mask statics ak v kind policy.
+    record { agent = agent; contact = contact; bank = bank; mask = mask; statics = statics; ak = ak; v = v; kind = kind; policy = policy } in
+    let whole : made a.agent a.contact a.bank a.mask a.statics a.ak a.v a.kind a.policy
+    ≡ made b.agent b.contact b.bank b.mask b.statics b.ak b.v b.kind b.policy = cc in
     whole
 
 SpellsReplace-same : (arguments : List ℕ) (a b : Replace) → SpellsReplace arguments a → SpellsReplace arguments b → a ≡ b
 SpellsReplace-same arguments a b s t =
-    let expected : List (List ℕ) = a.agent ∷ codes "flat" ∷ [] in
-    let others : List (List ℕ) = b.agent ∷ codes "flat" ∷ [] in
+    let expected : List (List ℕ) = a.agent ∷ kind_word a.kind ∷ [] in
+    let others : List (List ℕ) = b.agent ∷ kind_word b.kind ∷ [] in
     let same = IsSplit-same arguments 2 expected others s.policy t.policy s.split t.split in
     let agent : a.agent ≡ b.agent = heads same.0 in
+    let kind : a.kind ≡ b.kind = kind_word-same a.kind b.kind (heads (tails same.0)) in
     let policy : a.policy ≡ b.policy = IsEscaped-same t.policy a.policy b.policy (subst (λ w. IsEscaped w a.policy) same.1 s.is_policy) t.is_policy in
-    let made : List ℕ → List ℕ → Replace = λ agent policy. record { agent = agent; policy = policy } in
-    let whole : made a.agent a.policy ≡ made b.agent b.policy = cc in
+    let made : List ℕ → PolicyKind → List ℕ → Replace = λ agent kind policy. record { agent = agent; kind = kind; policy = policy } in
+    let whole : made a.agent a.kind a.policy ≡ made b.agent b.kind b.policy = cc in
     whole
 
 SpellsBegin-same : (arguments : List ℕ) (a b : Begin) → SpellsBegin arguments a → SpellsBegin arguments b → a ≡ b

@@ -1,6 +1,8 @@
 -- The commands of a script, and the lines that spell them.
 use Rattle.std.specs.Prelude.{◌≡◌, ◌⊎◌, ℕ, List, [], ◌∷◌, ◌++◌, codes, Option, Some, None, Result, Ok, Err, IsUtf8, ⊤}
 use Rattle.kl_states.specs.Names.{IsAgentId, IsNonce}
+use Rattle.kl_states.specs.declared.policy_kind.PolicyKind.{PolicyKind}
+use Rattle.kl_states.specs.declared.policy_kind.PolicyKind.TheVariants.{Flat, Json}
 use Rattle.kl_bank.specs.Banks.{name_of}
 use Rattle.kl_script.specs.declared.fault.CommandFault.{CommandFault}
 use Rattle.kl_script.specs.declared.fault.CommandFault.TheVariants.{NoCommand, Memory}
@@ -62,6 +64,11 @@ fields (commands.State a) = state a
 
 -- ---- what stands behind the command's name and a space
 
+-- the word for a policy's form
+abbrev pub kind_word : PolicyKind → List ℕ
+kind_word Flat = codes "flat"
+kind_word Json = codes "json"
+
 -- the agent, contact, bank, mask, statics, attestation key, V and kind of policy, and the policy as a rest
 pub record SpellsAdd (arguments : List ℕ) (said : Add) : Type 0 where
   pub contact : List ℕ
@@ -70,7 +77,7 @@ pub record SpellsAdd (arguments : List ℕ) (said : Add) : Type 0 where
   pub ak : List ℕ
   pub v : List ℕ
   pub policy : List ℕ
-  pub split : IsSplit arguments 8 (said.agent ∷ contact ∷ name_of said.bank ∷ mask ∷ statics ∷ ak ∷ v ∷ codes "flat" ∷ []) policy
+  pub split : IsSplit arguments 8 (said.agent ∷ contact ∷ name_of said.bank ∷ mask ∷ statics ∷ ak ∷ v ∷ kind_word said.kind ∷ []) policy
   pub is_agent : IsAgentId said.agent
   pub is_contact : IsField contact said.contact
   pub is_mask : IsMask mask said.mask
@@ -82,7 +89,7 @@ pub record SpellsAdd (arguments : List ℕ) (said : Add) : Type 0 where
 -- the agent and kind of policy, and the policy as a rest
 pub record SpellsReplace (arguments : List ℕ) (said : Replace) : Type 0 where
   pub policy : List ℕ
-  pub split : IsSplit arguments 2 (said.agent ∷ codes "flat" ∷ []) policy
+  pub split : IsSplit arguments 2 (said.agent ∷ kind_word said.kind ∷ []) policy
   pub is_agent : IsAgentId said.agent
   pub is_policy : IsEscaped policy said.policy
 

@@ -3,7 +3,7 @@
 use kl_bank::Bank;
 use kl_pcr::Statics;
 use kl_quote::Evidence;
-use kl_states::{AgentId, Blob, Nonce, Text};
+use kl_states::{AgentId, Blob, Nonce, PolicyKind, Text};
 
 /// What a line of a script asks for.
 #[derive(Drop)]
@@ -30,7 +30,7 @@ pub enum Command {
     State(AgentId),
 }
 
-/// Makes an agent known: `add <agent> <contact> <bank> <mask> <statics> <ak> <v> flat <policy>`.
+/// Makes an agent known: `add <agent> <contact> <bank> <mask> <statics> <ak> <v> <kind> <policy>`.
 #[derive(Drop)]
 pub struct Add {
     /// The agent's name.
@@ -47,16 +47,20 @@ pub struct Add {
     pub ak: Blob,
     /// The verifier's share V of the key of the agent's payload, where there is one.
     pub v: Option<[u8; 32]>,
-    /// The text of its runtime policy, in the flat format.
+    /// The form of its runtime policy.
+    pub kind: PolicyKind,
+    /// The text of its runtime policy, in that form.
     pub policy: Text,
 }
 
-/// Gives an agent another runtime policy: `replace <agent> flat <policy>`.
+/// Gives an agent another runtime policy: `replace <agent> <kind> <policy>`.
 #[derive(Drop)]
 pub struct Replace {
     /// The agent's name.
     pub agent: AgentId,
-    /// The text of its new runtime policy, in the flat format.
+    /// The form of its new runtime policy.
+    pub kind: PolicyKind,
+    /// The text of its new runtime policy, in that form.
     pub policy: Text,
 }
 

@@ -1,12 +1,13 @@
 //! Lines as commands.
 
-ghost use Rattle.std.specs.Prelude.{◌≡◌, ◌≤◌, ◌↔◌, ℕ, List, IsTrue, IfOk, OnErr, Err, length};
+ghost use Rattle.std.specs.Prelude.{◌≡◌, ◌≢◌, ◌≤◌, ◌↔◌, ℕ, List, IsTrue, IfOk, IfSome, IfNone, OnErr, Err, length};
 ghost use Rattle.kl_states.specs.Names.{IsNonce};
+ghost use Rattle.kl_states.specs.declared.policy_kind.PolicyKind.{PolicyKind as AnyKind};
 ghost use Rattle.kl_script.specs.declared.command.Add.{Add as AnyAdd};
 ghost use Rattle.kl_script.specs.declared.command.Begin.{Begin as AnyBegin};
 ghost use Rattle.kl_script.specs.declared.command.Replace.{Replace as AnyReplace};
 ghost use Rattle.kl_script.specs.Commands.{SpellsAdd, SpellsAgent, SpellsBegin, SpellsReplace, SpellsReply};
-ghost use Rattle.kl_script.specs.Commands.{CommandFields, ReplyFields, IsBlank, Spells, IsRead, fields, reply_fields};
+ghost use Rattle.kl_script.specs.Commands.{CommandFields, ReplyFields, IsBlank, Spells, IsRead, fields, kind_word, reply_fields};
 ghost use Rattle.kl_script.specs.Words.{IsNumber};
 
 use crate::command::{Add, Begin, Command, Replace, Reply};
@@ -17,7 +18,7 @@ use crate::statics::read_statics;
 use crate::words::{cut_at, read_field, split_words, unescape_rest};
 use kl_bank::Bank;
 use kl_quote::Evidence;
-use kl_states::{AgentId, Nonce, Text};
+use kl_states::{AgentId, Nonce, PolicyKind, Text};
 use std::alloc::Global;
 
 /// An agent's name, and nothing else.
@@ -44,6 +45,18 @@ fn read_moment(arguments: &str) -> Result<u64, CommandFault>
     read_number(arguments).ok_or(CommandFault::NoCommand)
 }
 
+/// The form of a policy: `flat` or `json`.
+fn read_kind(word: &str) -> Option<PolicyKind>
+    ensures found { IfSome result (λ kind. word.now ≡ kind_word kind) }
+    ensures none { IfNone result ((kind : AnyKind) → word.now ≢ kind_word kind) }
+{
+    match word {
+        "flat" => Some(PolicyKind::Flat),
+        "json" => Some(PolicyKind::Json),
+        _ => None,
+    }
+}
+
 /// What stands behind `add`.
 fn read_add(alloc: Global, arguments: &str) -> Result<Add, CommandFault>
     ensures found { IfOk result (λ add. SpellsAdd arguments.now add) }
@@ -53,14 +66,14 @@ fn read_add(alloc: Global, arguments: &str) -> Result<Add, CommandFault>
     let &[agent, contact, bank, mask, statics, ak, v, kind] = words.as_slice() else {
         return Err(CommandFault::NoCommand);
     };
-    if kind != "flat" {
-        return Err(CommandFault::NoCommand);
-    }
     let agent = read_agent(agent)?;
     let Some(bank) = Bank::from_name(bank) else {
         return Err(CommandFault::NoCommand);
     };
     let Some(mask) = read_mask(mask) else {
+        return Err(CommandFault::NoCommand);
+    };
+    let Some(kind) = read_kind(kind) else {
         return Err(CommandFault::NoCommand);
     };
     let contact = Text::new(read_field(alloc, contact)?);
@@ -76,6 +89,7 @@ fn read_add(alloc: Global, arguments: &str) -> Result<Add, CommandFault>
         statics,
         ak,
         v,
+        kind,
         policy,
     })
 }
@@ -89,12 +103,16 @@ fn read_replace(alloc: Global, arguments: &str) -> Result<Replace, CommandFault>
     let &[agent, kind] = words.as_slice() else {
         return Err(CommandFault::NoCommand);
     };
-    if kind != "flat" {
-        return Err(CommandFault::NoCommand);
-    }
     let agent = read_agent(agent)?;
+    let Some(kind) = read_kind(kind) else {
+        return Err(CommandFault::NoCommand);
+    };
     let policy = Text::new(unescape_rest(alloc, policy)?);
-    Ok(Replace { agent, policy })
+    Ok(Replace {
+        agent,
+        kind,
+        policy,
+    })
 }
 
 /// What stands behind `begin`.
@@ -173,17 +191,17 @@ fn read_text(alloc: Global, line: &str) -> Result<Command, CommandFault>
 /// The words of a line have one space between two. The commands are
 ///
 /// - nothing: an empty line, or a comment, which begins with `#`
-/// - `add <agent> <contact> <bank> <mask> <statics> <ak> <v> flat <policy>`
-/// - `replace <agent> flat <policy>`
+/// - `add <agent> <contact> <bank> <mask> <statics> <ak> <v> <kind> <policy>`
+/// - `replace <agent> <kind> <policy>`
 /// - `reactivate <agent>`, `stop <agent>`, `remove <agent>` and `state <agent>`
 /// - `now <moment>`
 /// - `begin <agent> <nonce>`, or `begin <agent>` for a nonce that is drawn
 /// - `reply <poll> <bank> <start> <public key> <quote> <measurement list>`
 ///
-/// The contact, the bank of a reply, the public key and the quote are fields, and a policy and a
-/// measurement list are rests, which go to the line's end. A moment, a poll and a start are decimal
-/// numbers below 2^64. The error is `NoCommand` for every other line, and for one that is not UTF-8,
-/// be it a comment.
+/// A kind is `flat` or `json`. The contact, the bank of a reply, the public key and the quote are
+/// fields, and a policy and a measurement list are rests, which go to the line's end. A moment, a
+/// poll and a start are decimal numbers below 2^64. The error is `NoCommand` for every other line,
+/// and for one that is not UTF-8, be it a comment.
 pub fn read_command(alloc: Global, line: &[u8]) -> Result<Command, CommandFault>
     requires { length line.now ≤ 16777216 }
     ensures found { IfOk result (λ command. Spells line.now (fields command)) }

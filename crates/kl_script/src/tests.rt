@@ -1,24 +1,35 @@
 use super::*;
+use kl_states::PolicyKind;
 use std::alloc::Global;
 use std::test::*;
 
-/// Lines by the command that they spell: each command, and its parts at their edges.
-const LINES: [(&str, &str); 11] = [
+/// Lines by the command that they spell and the form of its policy: each command, and its parts at
+/// their edges.
+const LINES: [(&str, &str); 13] = [
     (
         "nothing",
         "\n#\n# a comment\n#stop a1\n# \u{e9} \u{1f511} \r\t\\x",
     ),
     (
-        "add",
+        "add flat",
         "add node-1.b host\\sone:9002 sha384 0x0a0400 0=00112233445566778899AABBCCDDEEFF00112233,\
 aa00000000000000000000000000000000000000000000000000000000000001;\
 23=bb0000000000000000000000000000000000000000000000000000000000000000000000000000000000000000000002 \
 00Ff aa00000000000000000000000000000000000000000000000000000000000001 flat two  words\\nand \\\\\\s
-add a1 h sha1 0x0 - 00 - flat \nadd a1 h sha256 0xFFffFF 9=00112233445566778899aabbccddeeff00112233 00 - flat x",
+add a1 h sha1 0x0 - 00 - flat json\nadd a1 h sha1 0x0 - 00 - flat \n\
+add a1 h sha256 0xFFffFF 9=00112233445566778899aabbccddeeff00112233 00 - flat x",
     ),
     (
-        "replace",
-        "replace a1 flat \nreplace a1 flat  \nreplace node-1.b flat two  words\\nand \\\\\\s flat",
+        "add json",
+        "add a1 h sha1 0x0 - 00 - json {}\nadd a1 h sha1 0x0 - 00 - json \nadd a1 h sha1 0x0 - 00 - json json flat",
+    ),
+    (
+        "replace json",
+        "replace a1 json x\nreplace a1 json \nreplace a1 json { \\s}\\n\nreplace json json json\nreplace flat json flat",
+    ),
+    (
+        "replace flat",
+        "replace a1 flat \nreplace a1 flat  \nreplace a1 flat json x\nreplace json flat json\nreplace node-1.b flat two  words\\nand \\\\\\s flat",
     ),
     ("reactivate", "reactivate a1"),
     (
@@ -43,7 +54,9 @@ const OTHERS: &str =
 stop aaaaaaaaaaaaaaaaaaaaaaaaaaaaaaaaaaaaaaaaaaaaaaaaaaaaaaaaaaaaaaaaa
 reactivate\nreactivate a1 flat\nreactivate a1 \nremove \nremove a1 n1\nstate\nstate a1 1\nstate a1\r
 now \nnow 01\nnow 00\nnow -1\nnow +1\nnow 1 \nnow  1\nnow 1 2\nnow 1.5\nnow 0x1\nnow 18446744073709551616
-replace a1 flat\nreplace a1 json x\nreplace a1 Flat x\nreplace a1 flatx x\nreplace a1  flat x\nreplace  flat x\nreplace a/1 flat x\n\
+replace a1 flat\nreplace a1 Flat x\nreplace a1 flatx x\nreplace a1 fla x\nreplace a1 json\nreplace a1 Json x\n\
+replace a1 JSON x\nreplace a1 jsonx x\nreplace a1 jso x\nreplace a1  json x\nreplace  json x\nreplace a1 - x\nreplace json x\n\
+replace a1 json x\\\nreplace a1 flat,json x\nreplace a1 json{} x\nreplace a1  flat x\nreplace  flat x\nreplace a/1 flat x\n\
 replace flat x\nreplace a1 flat x\\
 begin\nbegin \nbegin a1 \nbegin a1  n\nbegin a1 n1 \nbegin a1 n1 n2\nbegin  a1 n1\nbegin  n1\n begin a1 n1\nBegin a1 n1\nbegin a/1 n1\n\
 begin a1 n-1\nbegin a/1
@@ -51,7 +64,8 @@ reply 1 sha256 0 p q\nreply x sha256 0 p q \nreply 01 sha256 0 p q \nreply +1 sh
 reply  sha256 0 p q \nreply 1 sha256 00 p q \nreply 1 sha256 +1 p q \nreply 1 sha256 18446744073709551616 p q \nreply 1 sha256 0 p\\0 q \n\
 reply 1 sha256 0 p q \\0
 add a1 h sha1 0x0 - 00 - flat
-add a1 h sha1 0x0 - 00 - json {}
+add a1 h sha1 0x0 - 00 - json\nadd a1 h sha1 0x0 - 00 - Json {}\nadd a1 h sha1 0x0 - 00 - jsonx {}\nadd a1 h sha1 0x0 - 00 - json{}\n\
+add a1 h sha1 0x0 - 00 - flatjson {}\nadd a1 h sha1 0x0 - 00 -  json {}\nadd a1 h sha1 0x0 - 00 json {}\nadd a1 h sha1 0x0 - 00 - json \\0
 add a1 h sha512 0x0 - 00 - flat \nadd a1 h\\t sha1 0x0 - 00 - flat \nadd a1 h sha1 0x0 - 00 - flat \\0
 add a1 h sha1 0x0 - 00 - flat x\\
 add a1  sha1 0x0 - 00 - flat \nadd a1 h sha1 10400 - 00 - flat \nadd a1 h sha1 0x - 00 - flat \nadd a1 h sha1 0X1 - 00 - flat \n\
@@ -68,12 +82,20 @@ add a1 h sha1 0x0 - 00 aa0000000000000000000000000000000000000000000000000000000
 /// Lines that are no text.
 const NO_TEXTS: [&[u8]; 3] = [b"# \xff", b"#\xc3", b"stop \xe9"];
 
-/// The name of a command.
+/// The one of two names that belongs to the form of a policy.
+fn name_by(kind: PolicyKind, flat: &'static str, json: &'static str) -> &'static str {
+    match kind {
+        PolicyKind::Flat => flat,
+        PolicyKind::Json => json,
+    }
+}
+
+/// The name of a command and of its policy's form.
 fn name_of(command: &Command) -> &'static str {
     match command {
         Command::Nothing => "nothing",
-        Command::Add(_) => "add",
-        Command::Replace(_) => "replace",
+        Command::Add(add) => name_by(add.kind, "add flat", "add json"),
+        Command::Replace(replace) => name_by(replace.kind, "replace flat", "replace json"),
         Command::Reactivate(_) => "reactivate",
         Command::Stop(_) => "stop",
         Command::Remove(_) => "remove",

@@ -34,7 +34,9 @@ use Rattle.kl_session.specs.Replies.{Appraisal, Finds, Unanswered, Short, IsFind
 use Rattle.kl_session.specs.Stopped.{DrawsNone, IsStopped}
 use Rattle.kl_session.specs.Session.{Does, Follows}
 use Rattle.kl_session.specs.Unique.{is_short, LacksNothing, GoesOn, Grows}
+use Rattle.kl_exclude.specs.Told.{MakerTold}
 use Rattle.kl_session.proofs.Opened.{behind}
+use Rattle.kl_session.proofs.Readings.{reads_on, refuses_on, no_terms_on}
 
 -- ---- what was known of the words stays known
 
@@ -50,6 +52,7 @@ same_on o o' same = record {
   keys = omega (arith, ap (λ (z : Outside). z.keys.calls.faults) same);
   drawn = omega (arith, ap (λ (z : Outside). z.words.calls.faults) same);
   left = λ w is. (w, ap (λ (z : Outside). z.words.left) same ∙ is);
+  made = omega (arith, ap (λ (z : Outside). z.maker.calls.faults) same);
 }
 
 pub and_on : (o then o' : Outside) → GoesOn o then → GoesOn then o' → GoesOn o o'
@@ -58,6 +61,7 @@ and_on o then o' f g = record {
   keys = omega (arith, f.keys, g.keys);
   drawn = omega (arith, f.drawn, g.drawn);
   left = λ w is. let known = f.left w is in g.left known.0 known.1;
+  made = omega (arith, f.made, g.made);
 }
 
 draws_on : (o o' : Outside) (nonce : List ℕ) → Draws o o' nonce → GoesOn o o'
@@ -66,6 +70,7 @@ draws_on o o' nonce d = record {
   keys = omega (arith, ap (λ (k : KeysTold). k.calls.faults) d.keys);
   drawn = d.once.later;
   left = λ w is. let known = consumed w o.words.left o'.words.left d.drawn is d.taken in (known.0, known.1);
+  made = omega (arith, ap (λ (m : MakerTold). m.calls.faults) d.maker);
 }
 
 nonce_on : (o o' : Outside) (named : Option (List ℕ)) (nonce : List ℕ) → HasNonce o o' named nonce → GoesOn o o'
@@ -78,6 +83,7 @@ none_on o o' d = record {
   keys = omega (arith, ap (λ (k : KeysTold). k.calls.faults) d.keys);
   drawn = elim d.cause [ inl met ↦ met.later | inr few ↦ few.1.later ];
   left = λ w is. (w, d.left ∙ is);
+  made = omega (arith, ap (λ (m : MakerTold). m.calls.faults) d.maker);
 }
 
 -- ---- the key object is asked, or is not: the rule that decides says which
@@ -139,14 +145,15 @@ went_on : (o o' : Outside) (past : Past) (t : TicketFields) (e : Evidence) (a : 
     → KeysOn o.keys o'.keys
 went_on o o' past t e (Finds signed found) opened went = finding_on o o' past t e signed found opened went
 went_on o o' past t e Unanswered opened (due, met, _) = asked o.keys o'.keys t.terms.ak e.quote None met
-went_on o o' past t e Short opened (inl same, _, _) = spared o.keys o'.keys same
-went_on o o' past t e Short opened (inr (due, met), _, _) = asked o.keys o'.keys t.terms.ak e.quote met.0 met.1
+went_on o o' past t e Short opened (inl same, _, _, _) = spared o.keys o'.keys same
+went_on o o' past t e Short opened (inr (due, met), _, _, _) = asked o.keys o'.keys t.terms.ak e.quote met.0 met.1
 
 reply_on : (o o' : Outside) (r : ReplyFields) (s s' : SessionFields) (line : List ℕ) → DoesReply o o' r s s' line → GoesOn o o'
 reply_on o o' r s s' line (inr none) = same_on o o' none.1
 reply_on o o' r s s' line (inl f) =
     let on = went_on o o' (past_at s) f.ticket f.evidence f.closes.appraisal f.opened f.closes.went in
     record {
+      made = omega (arith, ap (λ (m : MakerTold). m.calls.faults) f.closes.unmade);
       related = on.related;
       keys = on.later;
       drawn = omega (arith, ap (λ (w : WordsTold). w.calls.faults) f.closes.undrawn);
@@ -158,8 +165,10 @@ reply_on o o' r s s' line (inl f) =
 pub does_on : (o o' : Outside) (s : SessionFields) (c : CommandFields) (s' : SessionFields) (line : List ℕ) → Does o o' s c s' line → GoesOn o o'
 unfolding Does
 does_on o o' s nothing s' line h = same_on o o' h.0
-does_on o o' s (add a) s' line h = same_on o o' h.0
-does_on o o' s (replace r) s' line h = same_on o o' h.0
+does_on o o' s (add a) s' line (inl (t, named, are, reads, h)) = reads_on o o' a.kind t.policy reads
+does_on o o' s (add a) s' line (inr (why, none, h)) = no_terms_on o o' a why none
+does_on o o' s (replace r) s' line (inl (p, is, reads, h)) = reads_on o o' r.kind p reads
+does_on o o' s (replace r) s' line (inr (why, none, h)) = refuses_on o o' r.kind r.policy why none
 does_on o o' s (reactivate a) s' line h = same_on o o' h.0
 does_on o o' s (stop a) s' line h = same_on o o' h.0
 does_on o o' s (remove a) s' line h = same_on o o' h.0
@@ -192,10 +201,10 @@ by_call {makes = makes} s s' line h = (makes h.answer (past_at s), ap (λ (z : S
 pub does_grow : (o o' : Outside) (s : SessionFields) (c : CommandFields) (s' : SessionFields) (line : List ℕ) → Does o o' s c s' line → Grows s s'
 unfolding Does
 does_grow o o' s nothing s' line h = as_it_was s s' (ap (λ (z : SessionFields). z.history) h.1)
-does_grow o o' s (add a) s' line (_, inl (t, named, are, h)) = by_call s s' line h
-does_grow o o' s (add a) s' line (_, inr (why, none, h)) = as_it_was s s' (ap (λ (z : SessionFields). z.history) h.0)
-does_grow o o' s (replace r) s' line (_, inl (p, is, h)) = by_call s s' line h
-does_grow o o' s (replace r) s' line (_, inr (why, none, h)) = as_it_was s s' (ap (λ (z : SessionFields). z.history) h.0)
+does_grow o o' s (add a) s' line (inl (t, named, are, reads, h)) = by_call s s' line h
+does_grow o o' s (add a) s' line (inr (why, none, h)) = as_it_was s s' (ap (λ (z : SessionFields). z.history) h.0)
+does_grow o o' s (replace r) s' line (inl (p, is, reads, h)) = by_call s s' line h
+does_grow o o' s (replace r) s' line (inr (why, none, h)) = as_it_was s s' (ap (λ (z : SessionFields). z.history) h.0)
 does_grow o o' s (reactivate a) s' line h = by_call s s' line h.1
 does_grow o o' s (stop a) s' line h = by_call s s' line h.1
 does_grow o o' s (remove a) s' line h = by_call s s' line h.1

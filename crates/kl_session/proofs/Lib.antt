@@ -9,3 +9,4 @@ pub mod OneReply
 pub mod GoingOn
 pub mod OneStep
 pub mod GoodReplies
+pub mod Readings

@@ -11,8 +11,8 @@ use Rattle.kl_session.specs.Outside.{Outside, outside}
 use Rattle.kl_session.specs.Calls.{SessionFields}
 use Rattle.kl_session.specs.Replies.{DoesReply}
 use Rattle.kl_session.specs.Session.{Does}
-use Rattle.kl_session.specs.Stopped.{IsStopped}
-use Rattle.kl_session.specs.Inner.Stopping.{IsShort, IsUndone, IsUnbegun}
+use Rattle.kl_session.specs.Stopped.{IsStopped, IsToRead, MadeSome}
+use Rattle.kl_session.specs.Inner.Stopping.{IsShort, IsUndone, IsUnread, IsUnbegun}
 
 -- a command that asks nothing of the outside
 pub alone : {X : Type 0} (r : Result X Stop) (o : Outside) (s s' : SessionFields) (c : CommandFields) (Done : List ℕ → Type 0)
@@ -23,11 +23,23 @@ alone (Err why) o s s' c Done does short = subst (λ (stop : Stop). IsStopped st
   | inr same ↦ inr (same, inl refl)
 ])
 
+-- a command whose policy is read
+pub unread : {X : Type 0} (r : Result X Stop) (o o' : Outside) (s s' : SessionFields) (c : CommandFields) (Done : List ℕ → Type 0)
+    → ((line : List ℕ) → Done line → Does o o' s c s' line) → (MadeSome o o' → IsToRead c o o') → IfErr r (λ stop. IsUnread stop o o' s s' Done)
+    → IfErr r (λ why. IsStopped why o o' s c s')
+unread (Ok x) o o' s s' c Done does reads short = short
+unread (Err why) o o' s s' c Done does reads short = subst (λ (stop : Stop). IsStopped stop o o' s c s') (sym short.0) (elim short.1 [
+  | inl did ↦ inl (did.0, does did.0 did.1)
+  | inr same ↦ inr (same.0, inr (inr (reads same.1)))
+])
+
 -- a begin
 pub unbegun : (why : Stop) (o o' : Outside) (s s' : SessionFields) (b : Begin) → IsUnbegun why o o' s b s' → IsStopped why o o' s (begin b) s'
 unfolding Does
 unbegun NoNonce o o' s s' b (same, unnamed, none) = (same, (unnamed, none))
-unbegun Memory o o' s s' b short = short
+unbegun Memory o o' s s' b (inl did) = inl did
+unbegun Memory o o' s s' b (inr (same, inl left)) = inr (same, inl left)
+unbegun Memory o o' s s' b (inr (same, inr drawn)) = inr (same, inr (inl drawn))
 
 -- a reply
 pub unanswered : {X : Type 0} (r : Result X Stop) (o o' : Outside) (s s' : SessionFields) (said : ReplyFields)

@@ -23,7 +23,10 @@ use Rattle.kl_session.specs.Endings.{says_done, DoesStop, DoesRemove}
 use Rattle.kl_session.specs.Polls.{says_polled, BeginsWith}
 use Rattle.kl_session.specs.States.{says_state, SaysState}
 use Rattle.kl_session.specs.Texts.{says_refused, stopped_line, removed_line, refused_line, no_terms_text}
-use Rattle.kl_session.proofs.OneNaming.{one_policy, one_terms, no_policy_fault, one_policy_fault, no_terms_fault, one_terms_fault}
+use Rattle.kl_policy.proofs.OneFault.{one_policy}
+use Rattle.kl_session.specs.Outside.{Outside}
+use Rattle.kl_session.specs.declared.naming.NoTerms.TheVariants.{Policy}
+use Rattle.kl_session.proofs.OneNaming.{NoRise, one_terms, no_policy_fault, one_policy_fault, no_terms_fault, one_terms_fault}
 
 -- the same session and line
 abbrev pub AreSame : SessionFields → SessionFields → List ℕ → List ℕ → Type 0
@@ -61,27 +64,29 @@ polled_said (Err why) line said = said_of why line said
 
 -- ---- the calls that install, stop and remove
 
-names_none : (s x y : SessionFields) (l m : List ℕ) (why other : NoTerms) → why ≡ other → NamesNone why s x l → NamesNone other s y m → AreSame x y l m
-names_none s x y l m why other same f g = (f.0 ∙ sym g.0, f.1 ∙ ap (λ w. refused_line (no_terms_text w)) same ∙ sym g.1)
+names_none : (s x y : SessionFields) (l m : List ℕ) (why other : NoTerms) → no_terms_text why ≡ no_terms_text other → NamesNone why s x l → NamesNone other s y m → AreSame x y l m
+names_none s x y l m why other same f g = (f.0 ∙ sym g.0, f.1 ∙ ap refused_line same ∙ sym g.1)
 
-pub one_add_done : (a : Add) (s x y : SessionFields) (l m : List ℕ) → DoesAdd a s x l → DoesAdd a s y m → AreSame x y l m
-one_add_done a s x y l m (inl (t, named, are, f)) (inl (u, also, _, g)) =
+pub one_add_done : (o o' p p' : Outside) → NoRise o o' → NoRise p p' → (a : Add) (s x y : SessionFields) (l m : List ℕ) → DoesAdd o o' a s x l → DoesAdd p p' a s y m → AreSame x y l m
+one_add_done o o' p p' calm still a s x y l m (inl (t, named, are, _, f)) (inl (u, also, _, _, g)) =
     let same = subst (λ (v : TermsFields). Answered (Adds a.agent v) (add_makes a.agent v) (says_installed_or a.agent) s y m) (one_terms a u t also named) g in
     let one = one_add (past s) a.agent t in
     one_call IsAmpleWith (Adds a.agent t) (add_makes a.agent t) (says_installed_or a.agent) (installs_or_said a.agent) s x y l m one f same
-one_add_done a s x y l m (inl (t, named, are, f)) (inr (why, none, g)) = absurd (no_terms_fault a t why named are none)
-one_add_done a s x y l m (inr (why, none, f)) (inl (u, named, are, g)) = absurd (no_terms_fault a u why named are none)
-one_add_done a s x y l m (inr (why, none, f)) (inr (other, nor, g)) = names_none s x y l m why other (one_terms_fault a why other none nor) f g
+one_add_done o o' p p' calm still a s x y l m (inl (t, named, are, _, f)) (inr (why, none, g)) = absurd (no_terms_fault p p' still a t why named are none)
+one_add_done o o' p p' calm still a s x y l m (inr (why, none, f)) (inl (u, named, are, _, g)) = absurd (no_terms_fault o o' calm a u why named are none)
+one_add_done o o' p p' calm still a s x y l m (inr (why, none, f)) (inr (other, nor, g)) =
+    names_none s x y l m why other (one_terms_fault o o' p p' calm still a why other none nor) f g
 
-pub one_replace_done : (r : Replace) (s x y : SessionFields) (l m : List ℕ) → DoesReplace r s x l → DoesReplace r s y m → AreSame x y l m
-one_replace_done r s x y l m (inl (p, is, f)) (inl (q, also, g)) =
-    let policy = one_policy r.policy q p also is in
+pub one_replace_done : (o o' p p' : Outside) → NoRise o o' → NoRise p p' → (r : Replace) (s x y : SessionFields) (l m : List ℕ) → DoesReplace o o' r s x l → DoesReplace p p' r s y m → AreSame x y l m
+one_replace_done o o' p p' calm still r s x y l m (inl (c, is, _, f)) (inl (d, also, _, g)) =
+    let policy = one_policy r.kind r.policy d c also is in
     let same = subst (λ (v : PolicyFields). Answered (Replaces r.agent v) (replace_makes r.agent v) (says_installed_or r.agent) s y m) policy g in
-    let one = one_replace (past s) r.agent p in
-    one_call IsAmpleWith (Replaces r.agent p) (replace_makes r.agent p) (says_installed_or r.agent) (installs_or_said r.agent) s x y l m one f same
-one_replace_done r s x y l m (inl (p, is, f)) (inr (why, none, g)) = absurd (no_policy_fault r.policy p why is none)
-one_replace_done r s x y l m (inr (why, none, f)) (inl (q, is, g)) = absurd (no_policy_fault r.policy q why is none)
-one_replace_done r s x y l m (inr (why, none, f)) (inr (other, nor, g)) = names_none s x y l m why other (one_policy_fault r.policy why other none nor) f g
+    let one = one_replace (past s) r.agent c in
+    one_call IsAmpleWith (Replaces r.agent c) (replace_makes r.agent c) (says_installed_or r.agent) (installs_or_said r.agent) s x y l m one f same
+one_replace_done o o' p p' calm still r s x y l m (inl (c, is, _, f)) (inr (why, none, g)) = absurd (no_policy_fault p p' still r.kind r.policy c why is none)
+one_replace_done o o' p p' calm still r s x y l m (inr (why, none, f)) (inl (d, is, _, g)) = absurd (no_policy_fault o o' calm r.kind r.policy d why is none)
+one_replace_done o o' p p' calm still r s x y l m (inr (why, none, f)) (inr (other, nor, g)) =
+    names_none s x y l m (Policy why) (Policy other) (one_policy_fault o o' p p' calm still r.kind r.policy why other none nor) f g
 
 pub one_reactivate_done : (a : List ℕ) (s x y : SessionFields) (l m : List ℕ) → DoesReactivate a s x l → DoesReactivate a s y m → AreSame x y l m
 one_reactivate_done a s x y l m =

@@ -11,6 +11,10 @@ use Rattle.kl_script.specs.declared.command.Begin.{Begin}
 use Rattle.kl_script.specs.Commands.{ReplyFields, CommandFields, nothing, add, replace, reactivate, stop, remove, now, begin, reply, state}
 use Rattle.kl_history.specs.Legal.{Legal}
 use Rattle.kl_session.specs.declared.stop.Stop.TheVariants.{NoNonce}
+use Rattle.kl_script.specs.declared.command.Add.{Add}
+use Rattle.kl_script.specs.declared.command.Replace.{Replace}
+use Rattle.kl_session.specs.declared.naming.NoTerms.TheVariants.{Policy, Mask, Static}
+use Rattle.kl_session.specs.Installs.{DoesAdd, DoesReplace}
 use Rattle.kl_session.specs.Outside.{Outside}
 use Rattle.kl_session.specs.Calls.{SessionFields}
 use Rattle.kl_session.specs.Polls.{Draws, HasNonce, BeginsWith, DoesBegin}
@@ -59,6 +63,16 @@ reply_undrawn : (o o' : Outside) (r : ReplyFields) (s s' : SessionFields) (line 
 reply_undrawn o o' r s s' line (inl f) = f.closes.undrawn
 reply_undrawn o o' r s s' line (inr none) = undrawn o o' none.1
 
+add_undrawn : (o o' : Outside) (a : Add) (s s' : SessionFields) (line : List ℕ) → DoesAdd o o' a s s' line → o'.words ≡ o.words
+add_undrawn o o' a s s' line (inl (t, named, are, reads, h)) = reads.rest.words
+add_undrawn o o' a s s' line (inr (Policy why, none, h)) = none.rest.words
+add_undrawn o o' a s s' line (inr (Mask, none, h)) = none.0.2.rest.words
+add_undrawn o o' a s s' line (inr (Static, none, h)) = none.0.2.rest.words
+
+replace_undrawn : (o o' : Outside) (r : Replace) (s s' : SessionFields) (line : List ℕ) → DoesReplace o o' r s s' line → o'.words ≡ o.words
+replace_undrawn o o' r s s' line (inl (p, is, reads, h)) = reads.rest.words
+replace_undrawn o o' r s s' line (inr (why, none, h)) = none.rest.words
+
 answering : (relations : Relations) (words : List ℕ) (o o' : Outside) → IsFaultless relations words o o' → Answering relations o o'
 answering relations words o o' f = record { related = f.related; faultless = f.keys }
 
@@ -84,8 +98,12 @@ module _ (relations : Relations) (words : List ℕ) (o o' p p' : Outside) (f : I
       → Does o o' s c x l → Does p p' s c y m → AreAlike x y l m o' p'
   unfolding Does AreAlike
   does_alike s nothing x y l m legal _ _ (a, to, says) (b, on, speaks) = alike x y l m (to ∙ sym on, says ∙ sym speaks) a b
-  does_alike s (add c) x y l m legal _ _ (a, does) (b, acts) = alike x y l m (one_add_done c s x y l m does acts) a b
-  does_alike s (replace c) x y l m legal _ _ (a, does) (b, acts) = alike x y l m (one_replace_done c s x y l m does acts) a b
+  does_alike s (add c) x y l m legal _ _ does acts =
+      let same = one_add_done o o' p p' f.made g.made c s x y l m does acts in
+      (same.0, same.1, untouched words o o' p p' f.left g.left (add_undrawn o o' c s x l does) (add_undrawn p p' c s y m acts))
+  does_alike s (replace c) x y l m legal _ _ does acts =
+      let same = one_replace_done o o' p p' f.made g.made c s x y l m does acts in
+      (same.0, same.1, untouched words o o' p p' f.left g.left (replace_undrawn o o' c s x l does) (replace_undrawn p p' c s y m acts))
   does_alike s (reactivate c) x y l m legal _ _ (a, does) (b, acts) = alike x y l m (one_reactivate_done c s x y l m does acts) a b
   does_alike s (stop c) x y l m legal _ _ (a, does) (b, acts) = alike x y l m (one_stop_done c s x y l m does acts) a b
   does_alike s (remove c) x y l m legal _ _ (a, does) (b, acts) = alike x y l m (one_remove_done c s x y l m does acts) a b
@@ -145,6 +163,7 @@ front_faultless relations words o then o' f on = record {
   left = f.left;
   keys = λ rose. f.keys (omega (arith, rose, on.keys));
   drawn = λ rose. f.drawn (omega (arith, rose, on.drawn));
+  made = λ rose. f.made (omega (arith, rose, on.made));
 }
 
 -- and from there on
@@ -156,6 +175,7 @@ rest_faultless relations words rest o then o' f on left = record {
   left = left;
   keys = λ rose. f.keys (omega (arith, rose, on.keys));
   drawn = λ rose. f.drawn (omega (arith, rose, on.drawn));
+  made = λ rose. f.made (omega (arith, rose, on.made));
 }
 
 -- a run of at least one command: its first step, and the rest

@@ -11,7 +11,7 @@ use Rattle.kl_appraise.specs.QuoteRules.{IsAnswered, IsUnasked}
 use Rattle.kl_appraise.specs.declared.judged.Outcome.{Outcome as Finding}
 use Rattle.kl_appraise.specs.declared.judged.Outcome.TheVariants as finding
 use Rattle.kl_incr.specs.Kept.{TicketFields}
-use Rattle.kl_incr.specs.Appraisal.{AppraisedFields, IsBlamed}
+use Rattle.kl_incr.specs.Appraisal.{IsIdle, AppraisedFields, IsBlamed}
 use Rattle.kl_history.specs.declared.record.Record.TheVariants.{Dropped}
 use Rattle.kl_history.specs.Records.{History, Past, past_of}
 use Rattle.kl_history.specs.Legal.{IsLegalPast, Legal, Row}
@@ -53,11 +53,11 @@ pub found_closes : (o o' : Outside) (H H' : History) (t : TicketFields) (e : Evi
     → IsFound (past_of H) a.ticket.poll a.evidence a.signed a.finding
     → IsAnswered o.keys.relations t.terms.ak (check_under t.terms t.nonce e a.signed)
     → (IsUnasked (check_under t.terms t.nonce e false) ⊎ Asked o.keys o'.keys t.terms.ak e.quote (Some a.signed))
-    → ((o'.keys ≡ o.keys) ⊎ IsToAsk t e) → o'.words ≡ o.words → o'.steps ≤ o.steps + length (lines_of e.list)
+    → ((o'.keys ≡ o.keys) ⊎ IsToAsk t e) → o'.words ≡ o.words → o'.maker ≡ o.maker → o'.steps ≤ o.steps + length (lines_of e.list)
     → IsClosed (past_of H) (record_by a.ticket.poll a.evidence a.signed a.finding c.current) a.ticket (closed_by a.finding) c
     → H' ≡ H ++ record_by a.ticket.poll a.evidence a.signed a.finding c.current ∷ []
     → ClosesBook o o' H t e c H'
-found_closes o o' H H' t e a c same_t same_e found answered question unasked undrawn cost is_closed grown = (
+found_closes o o' H H' t e a c same_t same_e found answered question unasked undrawn unmade cost is_closed grown = (
   record_by a.ticket.poll a.evidence a.signed a.finding c.current,
   grown,
   record {
@@ -72,6 +72,7 @@ found_closes o o' H H' t e a c same_t same_e found answered question unasked und
       cost = cost;
     };
     undrawn = undrawn;
+    unmade = unmade;
     by_record = rw (← same_t, ← same_e) refl;
     told = rw (← same_t) is_closed;
   },
@@ -80,20 +81,21 @@ found_closes o o' H H' t e a c same_t same_e found answered question unasked und
 -- without a finding
 pub dropped_closes : (o o' : Outside) (H H' : History) (t u : TicketFields) (e : Evidence) (why : DropWhy) (c : Closed) → u ≡ t
     → IsBlamed why o.keys o'.keys t e → ((o'.keys ≡ o.keys) ⊎ IsToAsk t e) → ((o'.keys ≡ o.keys) ⊎ AskedOnce o.keys o'.keys t.terms.ak e.quote)
-    → o'.words ≡ o.words → o'.steps ≡ o.steps
+    → o'.words ≡ o.words → o'.maker ≡ o.maker → IsIdle why t o.steps o'.steps → o'.steps ≤ o.steps + length (lines_of e.list)
     → IsClosed (past_of H) (Dropped u.poll why) u (closed.Dropped why) c → H' ≡ H ++ Dropped u.poll why ∷ [] → ClosesBook o o' H t e c H'
-dropped_closes o o' H H' t u e Keys c same blamed unasked once undrawn idle is_closed grown = (
+dropped_closes o o' H H' t u e Keys c same blamed unasked once undrawn unmade idle cost is_closed grown = (
   Dropped u.poll Keys,
   grown,
   record {
     appraisal = Unanswered;
     went = (blamed.0, blamed.1, idle);
     undrawn = undrawn;
+    unmade = unmade;
     by_record = ap (λ (v : TicketFields). Dropped v.poll Keys) same;
     told = rw (← same) is_closed;
   },
 )
-dropped_closes o o' H H' t u e Memory c same blamed unasked once undrawn idle is_closed grown = (
+dropped_closes o o' H H' t u e Memory c same blamed unasked once undrawn unmade idle cost is_closed grown = (
   Dropped u.poll Memory,
   grown,
   record {
@@ -105,13 +107,15 @@ dropped_closes o o' H H' t u e Memory c same blamed unasked once undrawn idle is
       ],
       blamed,
       idle,
+      cost,
     );
     undrawn = undrawn;
+    unmade = unmade;
     by_record = ap (λ (v : TicketFields). Dropped v.poll Memory) same;
     told = rw (← same) is_closed;
   },
 )
-dropped_closes o o' H H' t u e End c same blamed unasked once undrawn idle is_closed grown = absurd blamed
+dropped_closes o o' H H' t u e End c same blamed unasked once undrawn unmade idle cost is_closed grown = absurd blamed
 
 -- ---- the record that closes a poll
 

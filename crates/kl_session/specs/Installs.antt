@@ -1,6 +1,8 @@
 -- What the commands that install terms do.
 use Rattle.std.specs.Prelude.{◌≡◌, ◌⊎◌, ℕ, List, Option, Some, Result, Ok, Err}
 use Rattle.kl_policy.specs.PolicyFields.{PolicyFields}
+use Rattle.kl_policy.specs.Reading.{IsPolicy}
+use Rattle.kl_policy.specs.declared.fault.PolicyFault.{PolicyFault}
 use Rattle.kl_appraise.specs.Terms.{AreTerms, TermsFields}
 use Rattle.kl_script.specs.declared.command.Add.{Add}
 use Rattle.kl_script.specs.declared.command.Replace.{Replace}
@@ -8,7 +10,9 @@ use Rattle.kl_core.specs.declared.refusal.Refusal.{Refusal}
 use Rattle.kl_core.specs.Installs.{Adds, add_makes, Replaces, replace_makes, Reactivates, reactivate_makes}
 use Rattle.kl_session.specs.declared.naming.NoTerms.{NoTerms}
 use Rattle.kl_session.specs.Calls.{SessionFields, Answered}
-use Rattle.kl_session.specs.Terms.{NamesTerms, NamesNoTerms, IsFlatPolicy, IsNoPolicy}
+use Rattle.kl_session.specs.declared.naming.NoTerms.TheVariants.{Policy}
+use Rattle.kl_session.specs.Outside.{Outside}
+use Rattle.kl_session.specs.Terms.{NamesTerms, NamesNoTerms, Reads, Refuses}
 use Rattle.kl_session.specs.Texts.{installed_line, refused_line, says_refused, no_terms_text}
 
 -- the generation that was installed, or why none was
@@ -26,16 +30,18 @@ abbrev pub NamesNone : NoTerms → SessionFields → SessionFields → List ℕ 
 NamesNone why s s' line = (s' ≡ s) × (line ≡ refused_line (no_terms_text why))
 
 -- an add: the terms that it names are installed
-abbrev pub DoesAdd : Add → SessionFields → SessionFields → List ℕ → Type 0
-DoesAdd a s s' line =
-    ((t : TermsFields) × NamesTerms a t × AreTerms t × Answered (Adds a.agent t) (add_makes a.agent t) (says_installed_or a.agent) s s' line)
-    ⊎ ((why : NoTerms) × NamesNoTerms a why × NamesNone why s s' line)
+abbrev pub DoesAdd : Outside → Outside → Add → SessionFields → SessionFields → List ℕ → Type 0
+DoesAdd o o' a s s' line =
+    ((t : TermsFields) × NamesTerms a t × AreTerms t × Reads o o' a.kind t.policy
+    × Answered (Adds a.agent t) (add_makes a.agent t) (says_installed_or a.agent) s s' line)
+    ⊎ ((why : NoTerms) × NamesNoTerms o o' a why × NamesNone why s s' line)
 
 -- a replace: the policy that it names is installed, and the other terms stay
-abbrev pub DoesReplace : Replace → SessionFields → SessionFields → List ℕ → Type 0
-DoesReplace r s s' line =
-    ((p : PolicyFields) × IsFlatPolicy r.policy p × Answered (Replaces r.agent p) (replace_makes r.agent p) (says_installed_or r.agent) s s' line)
-    ⊎ ((why : NoTerms) × IsNoPolicy r.policy why × NamesNone why s s' line)
+abbrev pub DoesReplace : Outside → Outside → Replace → SessionFields → SessionFields → List ℕ → Type 0
+DoesReplace o o' r s s' line =
+    ((p : PolicyFields) × IsPolicy r.kind r.policy p × Reads o o' r.kind p
+    × Answered (Replaces r.agent p) (replace_makes r.agent p) (says_installed_or r.agent) s s' line)
+    ⊎ ((why : PolicyFault) × Refuses o o' r.kind r.policy why × NamesNone (Policy why) s s' line)
 
 abbrev pub DoesReactivate : List ℕ → SessionFields → SessionFields → List ℕ → Type 0
 DoesReactivate agent = Answered (Reactivates agent) (reactivate_makes agent) (says_installed agent)

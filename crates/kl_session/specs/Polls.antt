@@ -19,6 +19,7 @@ pub record Draws (o o' : Outside) (nonce : List ℕ) : Type 0 where
   pub once : Counts o.words.calls o'.words.calls ⊥
   pub digits : nonce ≡ encode_lower drawn
   pub keys : o'.keys ≡ o.keys
+  pub maker : o'.maker ≡ o.maker
   pub steps : o'.steps ≡ o.steps
 
 -- the nonce that is named, or one that is drawn

@@ -62,7 +62,7 @@ Went o o' past t e (Finds signed found) = IsFinding o o' past t e signed found
 Went o o' past t e Unanswered = IsToAsk t e × Asked o.keys o'.keys t.terms.ak e.quote None × (o'.steps ≡ o.steps)
 Went o o' past t e Short =
     ((o'.keys ≡ o.keys) ⊎ (IsToAsk t e × AskedOnce o.keys o'.keys t.terms.ak e.quote))
-    × (o'.keys.calls.faults ≡ o.keys.calls.faults) × (o'.steps ≡ o.steps)
+    × (o'.keys.calls.faults ≡ o.keys.calls.faults) × (t.terms.policy.patterns ≡ [] → o'.steps ≡ o.steps) × (o'.steps ≤ o.steps + length (lines_of e.list))
 
 -- by what the poll is closed
 abbrev pub closed_as : Appraisal → ClosedAs
@@ -76,11 +76,12 @@ closing_record p e (Finds signed found) current = record_by p e signed found cur
 closing_record p e Unanswered current = record_of.Dropped p dropped.Keys
 closing_record p e Short current = record_of.Dropped p dropped.Memory
 
--- An open poll is closed by the appraisal of its reply's evidence. No word is drawn.
+-- An open poll is closed by the appraisal of its reply's evidence. No word is drawn, and no pattern is made.
 pub record Closes (o o' : Outside) (past : Past) (t : TicketFields) (e : Evidence) (made : Record) (c : Closed) : Type 0 where
   pub appraisal : Appraisal
   pub went : Went o o' past t e appraisal
   pub undrawn : o'.words ≡ o.words
+  pub unmade : o'.maker ≡ o.maker
   pub by_record : made ≡ closing_record t.poll e appraisal c.current
   pub told : IsClosed past made t (closed_as appraisal) c
 

@@ -14,8 +14,8 @@ use Rattle.kl_session.specs.States.{SaysState}
 -- objects of the outside told the one before it, and the other after it.
 unfoldable pub Does : Outside → Outside → SessionFields → CommandFields → SessionFields → List ℕ → Type 0
 Does o o' s nothing s' line = (o' ≡ o) × (s' ≡ s) × (line ≡ [])
-Does o o' s (add a) s' line = (o' ≡ o) × DoesAdd a s s' line
-Does o o' s (replace r) s' line = (o' ≡ o) × DoesReplace r s s' line
+Does o o' s (add a) s' line = DoesAdd o o' a s s' line
+Does o o' s (replace r) s' line = DoesReplace o o' r s s' line
 Does o o' s (reactivate agent) s' line = (o' ≡ o) × DoesReactivate agent s s' line
 Does o o' s (stop agent) s' line = (o' ≡ o) × DoesStop agent s s' line
 Does o o' s (remove agent) s' line = (o' ≡ o) × DoesRemove agent s s' line

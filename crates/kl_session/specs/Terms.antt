@@ -1,25 +1,28 @@
 -- The terms that a command names, and why it names none.
-use Rattle.std.specs.Prelude.{◌≡◌, ℕ, ◌≤◌, false, List}
-use Rattle.std.specs.FinMap as finite_map
-use Rattle.kl_policy.specs.declared.fault.Limit.TheVariants.{Paths}
-use Rattle.kl_policy.specs.declared.fault.PolicyFault.TheVariants.{Line, Limit}
-use Rattle.kl_policy.specs.declared.kind.PolicyKind.TheVariants.{Flat}
-use Rattle.kl_policy.specs.Flat.{IsFlatFault, ListsDigests}
+use Rattle.std.specs.Prelude.{◌≡◌, ◌≢◌, ◌⊎◌, ℕ, List}
+use Rattle.kl_policy.specs.Making.{AsksFor, IsNoPolicy}
 use Rattle.kl_policy.specs.PolicyFields.{PolicyFields}
+use Rattle.kl_policy.specs.Reading.{IsPolicy}
+use Rattle.kl_policy.specs.declared.fault.PolicyFault.{PolicyFault}
+use Rattle.kl_policy.specs.declared.fault.PolicyFault.TheVariants as policy_fault
 use Rattle.kl_pcr.specs.Statics.{AreStatics}
 use Rattle.kl_appraise.specs.Terms.{IsMask, TermsFields}
 use Rattle.kl_script.specs.declared.command.Add.{Add}
+use Rattle.kl_states.specs.declared.policy_kind.PolicyKind.{PolicyKind}
+use Rattle.kl_session.specs.Outside.{Outside, LeavesRest}
 use Rattle.kl_session.specs.declared.naming.NoTerms.{NoTerms}
-use Rattle.kl_session.specs.declared.naming.NoTerms.TheVariants.{PolicyLine, PolicyPaths, Mask, Static}
+use Rattle.kl_session.specs.declared.naming.NoTerms.TheVariants.{Policy, Mask, Static}
 
--- the policy that a text in the flat format is: it allows the digests that the text lists, of at most 262,144 paths, and
--- no violations
-pub record IsFlatPolicy (text : List ℕ) (p : PolicyFields) : Type 0 where
-  pub source : p.source ≡ text
-  pub kind : p.kind ≡ Flat
-  pub digests : ListsDigests text p.digests
-  pub few : finite_map.len p.digests ≤ 262144
-  pub violations : p.passes_violations ≡ false
+-- What reading a policy asks: each of its patterns once, in order; or nothing, where it was read before.
+pub record Reads (o o' : Outside) (kind : PolicyKind) (p : PolicyFields) : Type 0 where
+  pub asked : AsksFor kind p.patterns o.maker o'.maker ⊎ (o'.maker ≡ o.maker)
+  pub rest : LeavesRest o o'
+
+-- the text of this form is no policy, for this reason, which is not want of memory
+pub record Refuses (o o' : Outside) (kind : PolicyKind) (text : List ℕ) (why : PolicyFault) : Type 0 where
+  pub because : IsNoPolicy kind text o.maker o'.maker why
+  pub named : why ≢ policy_fault.Memory
+  pub rest : LeavesRest o o'
 
 -- the terms have the parts of the add, and its policy
 pub record NamesTerms (a : Add) (t : TermsFields) : Type 0 where
@@ -29,17 +32,14 @@ pub record NamesTerms (a : Add) (t : TermsFields) : Type 0 where
   pub statics : t.statics ≡ a.statics
   pub ak : t.ak ≡ a.ak
   pub v : t.v ≡ a.v
-  pub policy : IsFlatPolicy a.policy t.policy
+  pub policy : IsPolicy a.kind a.policy t.policy
 
--- why a text is no flat policy
-abbrev pub IsNoPolicy : List ℕ → NoTerms → Type 0
-IsNoPolicy text (PolicyLine place) = IsFlatFault text (Line place)
-IsNoPolicy text PolicyPaths = IsFlatFault text (Limit Paths)
-IsNoPolicy text _ = ⊥
+-- its policy is one
+abbrev pub NamesPolicy : Outside → Outside → Add → Type 0
+NamesPolicy o o' a = (p : PolicyFields) × IsPolicy a.kind a.policy p × Reads o o' a.kind p
 
 -- why the add names no terms, the first cause: its policy is none, then its mask, then its static PCRs
-abbrev pub NamesNoTerms : Add → NoTerms → Type 0
-NamesNoTerms a (PolicyLine place) = IsNoPolicy a.policy (PolicyLine place)
-NamesNoTerms a PolicyPaths = IsNoPolicy a.policy PolicyPaths
-NamesNoTerms a Mask = (p : PolicyFields) × IsFlatPolicy a.policy p × (¬ IsMask a.mask)
-NamesNoTerms a Static = (p : PolicyFields) × IsFlatPolicy a.policy p × IsMask a.mask × (¬ AreStatics a.bank a.mask a.statics)
+abbrev pub NamesNoTerms : Outside → Outside → Add → NoTerms → Type 0
+NamesNoTerms o o' a (Policy why) = Refuses o o' a.kind a.policy why
+NamesNoTerms o o' a Mask = NamesPolicy o o' a × (¬ IsMask a.mask)
+NamesNoTerms o o' a Static = NamesPolicy o o' a × IsMask a.mask × (¬ AreStatics a.bank a.mask a.statics)

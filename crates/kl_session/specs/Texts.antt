@@ -13,8 +13,9 @@ use Rattle.kl_core.specs.declared.closed.ClosedAs.TheVariants.{Verdict, Restart,
 use Rattle.kl_core.specs.declared.refusal.Refusal.{Refusal}
 use Rattle.kl_core.specs.declared.refusal.Refusal.TheVariants.{Memory}
 use Rattle.kl_core.specs.Texts.{refusal_text}
+use Rattle.kl_policy.specs.Texts.{named_text}
 use Rattle.kl_session.specs.declared.naming.NoTerms.{NoTerms}
-use Rattle.kl_session.specs.declared.naming.NoTerms.TheVariants.{PolicyLine, PolicyPaths, Mask, Static}
+use Rattle.kl_session.specs.declared.naming.NoTerms.TheVariants.{Policy, Mask, Static}
 
 abbrev pub newline : List ℕ
 newline = 10 ∷ []
@@ -23,8 +24,7 @@ newline = 10 ∷ []
 
 -- why a command names no terms
 abbrev pub no_terms_text : NoTerms → List ℕ
-no_terms_text (PolicyLine place) = codes "policy line " ++ decimal place
-no_terms_text PolicyPaths = codes "policy limit paths"
+no_terms_text (Policy why) = codes "policy " ++ named_text why
 no_terms_text Mask = codes "mask"
 no_terms_text Static = codes "static"
 

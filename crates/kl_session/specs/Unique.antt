@@ -25,12 +25,13 @@ pub record LacksNothing (H : History) : Type 0 where
   pub ample : All (λ r. is_short r ≡ false) H
 
 -- The key object tells that it answers by these relations, and the words tell that these bytes are left; from the one moment to
--- the other neither count of faults rose.
+-- the other no count of faults rose, and no pattern was refused as too large.
 pub record IsFaultless (relations : Relations) (words : List ℕ) (o o' : Outside) : Type 0 where
   pub related : o.keys.relations ≡ Some relations
   pub left : o.words.left ≡ Some words
   pub keys : ¬ (Rose o.keys.calls.faults o'.keys.calls.faults)
   pub drawn : ¬ (Rose o.words.calls.faults o'.words.calls.faults)
+  pub made : ¬ (Rose o.maker.calls.faults o'.maker.calls.faults)
 
 -- From the one moment to the other the key object keeps its relations, no count of faults falls, and it stays known which words
 -- are left.
@@ -38,6 +39,7 @@ pub record GoesOn (o o' : Outside) : Type 0 where
   pub related : o'.keys.relations ≡ o.keys.relations
   pub keys : o.keys.calls.faults ≤ o'.keys.calls.faults
   pub drawn : o.words.calls.faults ≤ o'.words.calls.faults
+  pub made : o.maker.calls.faults ≤ o'.maker.calls.faults
   pub left : (words : List ℕ) → o.words.left ≡ Some words → (rest : List ℕ) × (o'.words.left ≡ Some rest)
 
 -- the history of the session has more records, behind those that it had

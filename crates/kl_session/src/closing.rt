@@ -37,7 +37,9 @@ impl Session {
             mut book,
             tickets,
             moment: _,
+            latest,
         } = self;
+        drop(latest);
         drop_all(&mut book, tickets);
         let _len = book.len();
         book

@@ -2,7 +2,11 @@
 
 ghost use Rattle.std.specs.Prelude.{◌≡◌, IfOk, IfErr, Some, string_bytes};
 ghost use Rattle.kl_session.specs.Installs.{DoesAdd, DoesReplace, DoesReactivate, says_installed, says_installed_or};
-ghost use Rattle.kl_session.specs.Inner.Stopping.{IsShort};
+ghost use Rattle.kl_session.specs.declared.naming.NoTerms.{NoTerms};
+ghost use Rattle.kl_session.specs.Outside.{Outside};
+ghost use Rattle.kl_session.specs.Texts.{no_terms_text, refused_line};
+ghost use Rattle.kl_session.specs.Inner.Naming.{Tells};
+ghost use Rattle.kl_session.specs.Inner.Stopping.{IsShort, IsUnread};
 
 use crate::naming::{NamingFault, policy_of, terms_of};
 use crate::refusals::say_refused;
@@ -10,6 +14,7 @@ use crate::session::Session;
 use crate::stop::Stop;
 use crate::texts::{installed_line, no_terms_line};
 use kl_core::Refusal;
+use kl_exclude::PatternMaker;
 use kl_script::{Add, Replace};
 use kl_states::AgentId;
 use std::alloc::Global;
@@ -44,38 +49,66 @@ fn say_installed_or<T: Drop>(
     }
 }
 
+/// What is said of a command that names no terms. Want of memory has no line: it ends a session.
+fn say_unnamed(alloc: Global, fault: NamingFault) -> Result<String, Stop>
+    ensures line { IfOk result (λ line. (why : NoTerms) × (fault ≡ NamingFault.None why)
+        × (string_bytes line ≡ refused_line (no_terms_text why))) }
+    ensures short { IfErr result (λ stop. stop ≡ Stop.Memory) }
+{
+    match fault {
+        NamingFault::None(why) => Ok(no_terms_line(alloc, why)?),
+        NamingFault::Memory => Err(Stop::Memory),
+    }
+}
+
 impl Session {
     /// Installs an agent under the terms that an add names.
-    pub(crate) fn add(&mut self, alloc: Global, add: Add) -> Result<String, Stop>
-        ensures done { IfOk result (λ line. DoesAdd add self.old self.new (string_bytes line)) }
-        ensures short { IfErr result (λ stop. IsShort stop self.old self.new (DoesAdd add self.old self.new)) }
+    pub(crate) fn add<P: PatternMaker>(
+        &mut self,
+        alloc: Global,
+        add: Add,
+        patterns: &mut P,
+    ) -> Result<String, Stop>
+        ensures done { IfOk result (λ line. (o o' : Outside) → Tells o o' (P.told patterns.old) (P.told patterns.new)
+            → DoesAdd o o' add self.old self.new (string_bytes line)) }
+        ensures short { IfErr result (λ stop. (o o' : Outside) → Tells o o' (P.told patterns.old) (P.told patterns.new)
+            → IsUnread stop o o' self.old self.new (DoesAdd o o' add self.old self.new)) }
     {
         let agent = add.agent;
-        match terms_of(alloc, add) {
+        match terms_of(alloc, add, &mut self.latest, patterns) {
             Ok(terms) => {
                 let answer = self.book.add(alloc, agent, terms);
                 let _len = self.book.len();
                 say_installed_or(alloc, agent, answer)
             },
-            Err(NamingFault::None(why)) => Ok(no_terms_line(alloc, why)?),
-            Err(NamingFault::Memory) => Err(Stop::Memory),
+            Err(fault) => say_unnamed(alloc, fault),
         }
     }
 
     /// Installs the policy that a replace names.
-    pub(crate) fn replace(&mut self, alloc: Global, replace: Replace) -> Result<String, Stop>
-        ensures done { IfOk result (λ line. DoesReplace replace self.old self.new (string_bytes line)) }
-        ensures short { IfErr result (λ stop. IsShort stop self.old self.new (DoesReplace replace self.old self.new)) }
+    pub(crate) fn replace<P: PatternMaker>(
+        &mut self,
+        alloc: Global,
+        replace: Replace,
+        patterns: &mut P,
+    ) -> Result<String, Stop>
+        ensures done { IfOk result (λ line. (o o' : Outside) → Tells o o' (P.told patterns.old) (P.told patterns.new)
+            → DoesReplace o o' replace self.old self.new (string_bytes line)) }
+        ensures short { IfErr result (λ stop. (o o' : Outside) → Tells o o' (P.told patterns.old) (P.told patterns.new)
+            → IsUnread stop o o' self.old self.new (DoesReplace o o' replace self.old self.new)) }
     {
-        let Replace { agent, policy } = replace;
-        match policy_of(alloc, policy) {
+        let Replace {
+            agent,
+            kind,
+            policy,
+        } = replace;
+        match policy_of(alloc, kind, policy, &mut self.latest, patterns) {
             Ok(policy) => {
                 let answer = self.book.replace(alloc, &agent, policy);
                 let _len = self.book.len();
                 say_installed_or(alloc, agent, answer)
             },
-            Err(NamingFault::None(why)) => Ok(no_terms_line(alloc, why)?),
-            Err(NamingFault::Memory) => Err(Stop::Memory),
+            Err(fault) => say_unnamed(alloc, fault),
         }
     }
 

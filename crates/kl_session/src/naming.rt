@@ -2,11 +2,16 @@
 
 ghost use Rattle.std.specs.Prelude.{IfOk, IfErr};
 ghost use Rattle.kl_appraise.specs.Terms.{AreTerms};
-ghost use Rattle.kl_session.specs.Terms.{IsFlatPolicy, NamesTerms};
-ghost use Rattle.kl_session.specs.Inner.Naming.{IsPolicyFault, IsTermsFault};
+ghost use Rattle.kl_policy.specs.Reading.{IsPolicy};
+ghost use Rattle.kl_session.specs.Outside.{Outside};
+ghost use Rattle.kl_session.specs.Terms.{NamesTerms, Reads};
+ghost use Rattle.kl_session.specs.Inner.Naming.{IsPolicyFault, IsTermsFault, Tells};
 
 use kl_appraise::{Terms, TermsFault};
-use kl_policy::{Limit, Policy, PolicyFault, read_flat};
+use kl_base::Memory;
+use kl_exclude::{ExcludeFault, PatternMaker};
+use kl_json::JsonFault;
+use kl_policy::{Limit, Policy, PolicyFault, PolicyKind, read_policy};
 use kl_script::Add;
 use kl_states::Text;
 use std::alloc::Global;
@@ -15,10 +20,8 @@ use std::fmt;
 /// Why a command names no terms.
 #[derive(Clone, Copy, Debug, PartialEq, Eq)]
 pub enum NoTerms {
-    /// The line of its policy at this place, from 0, is none of a flat policy.
-    PolicyLine(usize),
-    /// Its policy names too many paths.
-    PolicyPaths,
+    /// Its policy is none, for this reason, which is not want of memory.
+    Policy(PolicyFault),
     /// Its mask lacks a PCR that every quote has, or has one that no TPM has.
     Mask,
     /// Its static PCRs are not those of its bank and mask.
@@ -33,10 +36,37 @@ impl fmt::Display for NoTerms {
 
     fn fmt<W: fmt::Write>(&self, f: &mut fmt::Formatter<W>) -> fmt::Result {
         match self {
-            NoTerms::PolicyLine(place) => write!(f, "policy line {place}"),
-            NoTerms::PolicyPaths => f.write_str("policy limit paths"),
+            NoTerms::Policy(why) => write!(f, "policy {}", Named(*why)),
             NoTerms::Mask => f.write_str("mask"),
             NoTerms::Static => f.write_str("static"),
+        }
+    }
+}
+
+/// A policy's fault by the word for it.
+#[derive(Clone, Copy)]
+struct Named(PolicyFault);
+
+impl fmt::Display for Named {
+    ghost use Rattle.std.specs.Prelude.{Some};
+    ghost use Rattle.kl_policy.specs.Texts.{named_text};
+
+    ghost output = { λ named. Some (named_text named.0) };
+
+    fn fmt<W: fmt::Write>(&self, f: &mut fmt::Formatter<W>) -> fmt::Result {
+        match self.0 {
+            PolicyFault::Json(JsonFault::NotJson) => f.write_str("notjson"),
+            PolicyFault::Json(JsonFault::Missing(name)) => write!(f, "missing {name}"),
+            PolicyFault::Json(JsonFault::Kind(name)) => write!(f, "kind {name}"),
+            PolicyFault::Line(place) => write!(f, "line {place}"),
+            PolicyFault::BadDigest(path, place) => write!(f, "digest {path} {place}"),
+            PolicyFault::Unsupported(name) => write!(f, "unsupported {name}"),
+            PolicyFault::Limit(Limit::Paths) => f.write_str("limit paths"),
+            PolicyFault::Limit(Limit::Patterns) => f.write_str("limit patterns"),
+            PolicyFault::Limit(Limit::PatternBytes) => f.write_str("limit patternbytes"),
+            PolicyFault::Exclude(ExcludeFault::Syntax(place)) => write!(f, "syntax {place}"),
+            PolicyFault::Exclude(ExcludeFault::TooLarge(place)) => write!(f, "toolarge {place}"),
+            PolicyFault::Json(_) | PolicyFault::Exclude(_) | PolicyFault::Memory => Ok(()),
         }
     }
 }
@@ -50,27 +80,74 @@ pub enum NamingFault {
     Memory,
 }
 
-/// The policy that a text in the flat format is.
-pub fn policy_of(alloc: Global, text: Text) -> Result<Policy, NamingFault>
-    ensures policy { IfOk result (λ p. IsFlatPolicy text p) }
-    ensures fault { IfErr result (λ f. IsPolicyFault text f) }
+impl From<Memory> for NamingFault {
+    ghost use Rattle.std.specs.Prelude.{◌≡◌};
+    ghost use Rattle.kl_session.specs.declared.naming.NamingFault.TheVariants.{Memory as no_memory};
+
+    ghost from_gives = { λ _ fault. fault ≡ no_memory };
+
+    fn from(_refused: Memory) -> NamingFault {
+        NamingFault::Memory
+    }
+}
+
+/// The policy that a text is: the one that was read last, where that was of the same text and form.
+pub fn policy_of<P: PatternMaker>(
+    alloc: Global,
+    kind: PolicyKind,
+    text: Text,
+    latest: &mut Option<Policy>,
+    maker: &mut P,
+) -> Result<Policy, NamingFault>
+    ensures policy { IfOk result (IsPolicy kind text) }
+    ensures reads { IfOk result (λ p. (o o' : Outside) → Tells o o' (P.told maker.old) (P.told maker.new) → Reads o o' kind p) }
+    ensures fault { IfErr result (λ f. (o o' : Outside) → Tells o o' (P.told maker.old) (P.told maker.new) → IsPolicyFault o o' kind text f) }
 {
-    match read_flat(alloc, text.as_str()) {
+    if let Some(policy) = latest {
+        if policy.is_of(kind, text.as_str()) {
+            return Ok(policy.share()?);
+        }
+    }
+    let policy = read(alloc, kind, text, maker)?;
+    // Where it can't be shared, it is read again.
+    *latest = policy.share().ok();
+    Ok(policy)
+}
+
+/// Reads a policy.
+fn read<P: PatternMaker>(
+    alloc: Global,
+    kind: PolicyKind,
+    text: Text,
+    maker: &mut P,
+) -> Result<Policy, NamingFault>
+    ensures policy { IfOk result (IsPolicy kind text) }
+    ensures reads { IfOk result (λ p. (o o' : Outside) → Tells o o' (P.told maker.old) (P.told maker.new) → Reads o o' kind p) }
+    ensures fault { IfErr result (λ f. (o o' : Outside) → Tells o o' (P.told maker.old) (P.told maker.new) → IsPolicyFault o o' kind text f) }
+{
+    match read_policy(alloc, kind, text.into_string(), maker) {
         Ok(policy) => Ok(policy),
-        Err(PolicyFault::Line(place)) => Err(NamingFault::None(NoTerms::PolicyLine(place))),
-        Err(PolicyFault::Limit(Limit::Paths)) => Err(NamingFault::None(NoTerms::PolicyPaths)),
-        Err(PolicyFault::Limit(_)) => unreachable!(),
         Err(PolicyFault::Memory) => Err(NamingFault::Memory),
+        Err(why) => Err(NamingFault::None(NoTerms::Policy(why))),
     }
 }
 
 /// The terms that an add names.
-pub fn terms_of(alloc: Global, add: Add) -> Result<Terms, NamingFault>
+pub fn terms_of<P: PatternMaker>(
+    alloc: Global,
+    add: Add,
+    latest: &mut Option<Policy>,
+    maker: &mut P,
+) -> Result<Terms, NamingFault>
     ensures names { IfOk result (λ t. NamesTerms add t) }
     ensures good { IfOk result (λ t. AreTerms t) }
-    ensures fault { IfErr result (λ f. IsTermsFault add f) }
+    ensures reads { IfOk result (λ t. (o o' : Outside) → Tells o o' (P.told maker.old) (P.told maker.new) → Reads o o' add.kind t.policy) }
+    ensures fault { IfErr result (λ f. (o o' : Outside) → Tells o o' (P.told maker.old) (P.told maker.new) → IsTermsFault o o' add f) }
 {
-    let policy = policy_of(alloc, add.policy)?;
+    let policy = match policy_of(alloc, add.kind, add.policy, latest, maker) {
+        Ok(policy) => policy,
+        Err(fault) => return Err(fault),
+    };
     let contact = add.contact.into_string();
     let statics = add.statics.into_vec();
     let ak = add.ak.into_vec();

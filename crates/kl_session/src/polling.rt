@@ -6,6 +6,7 @@ ghost use Rattle.kl_session.specs.Polls.{HasNonce, BeginsWith, DoesBegin};
 ghost use Rattle.kl_session.specs.Stopped.{DrawsNone};
 ghost use Rattle.kl_session.specs.Texts.{polled_line};
 ghost use Rattle.kl_session.specs.Inner.Stopping.{IsShort, IsUnbegun};
+ghost use Rattle.kl_exclude.specs.Told.{MakerTold};
 ghost use Rattle.kl_keys.specs.Told.{KeysTold};
 ghost use Rattle.hex.specs.Hex.{encode_lower};
 
@@ -33,10 +34,10 @@ fn nonce_from(drawn: &[u8; 16]) -> Nonce
 
 /// The nonce that a begin names, or one that is drawn: 16 bytes in hexadecimal digits.
 fn nonce_of<N: Words>(named: Option<Nonce>, nonces: &mut N) -> Option<Nonce>
-    ensures some { IfSome result (λ nonce. (keys : KeysTold) (steps : ℕ) → HasNonce (outside keys (N.told nonces.old) steps)
-        (outside keys (N.told nonces.new) steps) named nonce) }
-    ensures none { result ≡ None → (named ≡ None) × ((keys : KeysTold) (steps : ℕ) → DrawsNone (outside keys (N.told nonces.old) steps)
-        (outside keys (N.told nonces.new) steps)) }
+    ensures some { IfSome result (λ nonce. (keys : KeysTold) (maker : MakerTold) (steps : ℕ) → HasNonce (outside keys (N.told nonces.old) maker steps)
+        (outside keys (N.told nonces.new) maker steps) named nonce) }
+    ensures none { result ≡ None → (named ≡ None) × ((keys : KeysTold) (maker : MakerTold) (steps : ℕ) → DrawsNone (outside keys (N.told nonces.old) maker steps)
+        (outside keys (N.told nonces.new) maker steps)) }
 {
     match named {
         Some(nonce) => Some(nonce),
@@ -66,10 +67,10 @@ impl Session {
         begin: Begin,
         nonces: &mut N,
     ) -> Result<String, Stop>
-        ensures done { IfOk result (λ line. (keys : KeysTold) (steps : ℕ) → DoesBegin (outside keys (N.told nonces.old) steps)
-            (outside keys (N.told nonces.new) steps) begin self.old self.new (string_bytes line)) }
-        ensures stopped { IfErr result (λ stop. (keys : KeysTold) (steps : ℕ) → IsUnbegun stop (outside keys (N.told nonces.old) steps)
-            (outside keys (N.told nonces.new) steps) self.old begin self.new) }
+        ensures done { IfOk result (λ line. (keys : KeysTold) (maker : MakerTold) (steps : ℕ) → DoesBegin (outside keys (N.told nonces.old) maker steps)
+            (outside keys (N.told nonces.new) maker steps) begin self.old self.new (string_bytes line)) }
+        ensures stopped { IfErr result (λ stop. (keys : KeysTold) (maker : MakerTold) (steps : ℕ) → IsUnbegun stop (outside keys (N.told nonces.old) maker steps)
+            (outside keys (N.told nonces.new) maker steps) self.old begin self.new) }
     {
         let Some(nonce) = nonce_of(begin.nonce, nonces) else {
             return Err(Stop::NoNonce);

@@ -1,6 +1,7 @@
 //! Replies close their polls.
 
 ghost use Rattle.std.specs.Prelude.{◌≡◌, ◌++◌, ◌∷◌, [], IfOk, IfErr, string_bytes};
+ghost use Rattle.kl_exclude.specs.Told.{MakerTold};
 ghost use Rattle.kl_io.specs.Told.{WordsTold};
 ghost use Rattle.kl_history.specs.declared.record.Record.TheVariants.{Dropped};
 ghost use Rattle.kl_history.specs.Legal.{Legal};
@@ -71,7 +72,7 @@ fn close_poll<Y: Keys, L: Ledger>(
     steps: &mut Steps<L>,
 ) -> Closed
     requires { IsOpenTicket (past_of book.old) ticket }
-    ensures closes { (words : WordsTold) → ClosesBook (outside (Y.told keys.old) words steps.old) (outside (Y.told keys.new) words steps.new)
+    ensures closes { (words : WordsTold) (maker : MakerTold) → ClosesBook (outside (Y.told keys.old) words maker steps.old) (outside (Y.told keys.new) words maker steps.new)
         book.old ticket evidence result book.new }
     ensures legal { Legal book.new }
 {
@@ -98,11 +99,11 @@ impl Session {
         keys: &mut Y,
         steps: &mut Steps<L>,
     ) -> Result<String, Stop>
-        ensures done { IfOk result (λ line. (words : WordsTold) → DoesReply (outside (Y.told keys.old) words steps.old)
-            (outside (Y.told keys.new) words steps.new) (reply_fields reply) self.old self.new (string_bytes line)) }
-        ensures short { IfErr result (λ stop. (words : WordsTold) → IsUndone stop (outside (Y.told keys.old) words steps.old)
-            (outside (Y.told keys.new) words steps.new) self.old self.new (DoesReply (outside (Y.told keys.old) words steps.old)
-            (outside (Y.told keys.new) words steps.new) (reply_fields reply) self.old self.new)) }
+        ensures done { IfOk result (λ line. (words : WordsTold) (maker : MakerTold) → DoesReply (outside (Y.told keys.old) words maker steps.old)
+            (outside (Y.told keys.new) words maker steps.new) (reply_fields reply) self.old self.new (string_bytes line)) }
+        ensures short { IfErr result (λ stop. (words : WordsTold) (maker : MakerTold) → IsUndone stop (outside (Y.told keys.old) words maker steps.old)
+            (outside (Y.told keys.new) words maker steps.new) self.old self.new (DoesReply (outside (Y.told keys.old) words maker steps.old)
+            (outside (Y.told keys.new) words maker steps.new) (reply_fields reply) self.old self.new)) }
     {
         let Reply { poll, evidence } = reply;
         match take_ticket(&mut self.tickets, poll) {

@@ -14,10 +14,12 @@ use crate::stop::Stop;
 use crate::texts::{now_line, standing_line};
 use kl_base::Memory;
 use kl_core::{Book, Refusal};
+use kl_exclude::PatternMaker;
 use kl_incr::Ticket;
 use kl_io::Words;
 use kl_keys::Keys;
 use kl_pcr::Steps;
+use kl_policy::Policy;
 use kl_script::Command;
 use kl_states::AgentId;
 use std::alloc::Global;
@@ -32,6 +34,8 @@ pub struct Session {
     /// Of the open polls, in the order of their numbers.
     pub(crate) tickets: Vec<Ticket>,
     pub(crate) moment: u64,
+    /// The policy that was read last: where the next one has the same text, it is shared and not read again.
+    pub(crate) latest: Option<Policy>,
 }
 
 impl Model for Session {
@@ -62,6 +66,7 @@ impl Session {
             book: Book::new(alloc)?,
             tickets: Vec::new(alloc),
             moment: 0,
+            latest: None,
         })
     }
 
@@ -70,23 +75,24 @@ impl Session {
     /// # Errors
     /// `NoNonce` where a nonce was to be drawn and could not be, which changes nothing. `Memory` where memory ran
     /// out, before anything was done or after all was.
-    pub fn obey<Y: Keys, N: Words, L: Ledger>(
+    pub fn obey<Y: Keys, P: PatternMaker, N: Words, L: Ledger>(
         &mut self,
         alloc: Global,
         command: Command,
         keys: &mut Y,
+        patterns: &mut P,
         nonces: &mut N,
         steps: &mut Steps<L>,
     ) -> Result<String, Stop>
-        ensures done { IfOk result (λ line. Does (outside (Y.told keys.old) (N.told nonces.old) steps.old)
-            (outside (Y.told keys.new) (N.told nonces.new) steps.new) self.old (fields command) self.new (string_bytes line)) }
-        ensures stopped { IfErr result (λ why. IsStopped why (outside (Y.told keys.old) (N.told nonces.old) steps.old)
-            (outside (Y.told keys.new) (N.told nonces.new) steps.new) self.old (fields command) self.new) }
+        ensures done { IfOk result (λ line. Does (outside (Y.told keys.old) (N.told nonces.old) (P.told patterns.old) steps.old)
+            (outside (Y.told keys.new) (N.told nonces.new) (P.told patterns.new) steps.new) self.old (fields command) self.new (string_bytes line)) }
+        ensures stopped { IfErr result (λ why. IsStopped why (outside (Y.told keys.old) (N.told nonces.old) (P.told patterns.old) steps.old)
+            (outside (Y.told keys.new) (N.told nonces.new) (P.told patterns.new) steps.new) self.old (fields command) self.new) }
     {
         match command {
             Command::Nothing => Ok(String::new(alloc)),
-            Command::Add(add) => self.add(alloc, add),
-            Command::Replace(replace) => self.replace(alloc, replace),
+            Command::Add(add) => self.add(alloc, add, patterns),
+            Command::Replace(replace) => self.replace(alloc, replace, patterns),
             Command::Reactivate(agent) => self.reactivate(alloc, agent),
             Command::Stop(agent) => self.stop(alloc, agent),
             Command::Remove(agent) => self.remove(alloc, agent),

@@ -3,6 +3,7 @@
 ghost use Rattle.std.specs.Prelude.{◌≡◌, ◌≤◌};
 
 use crate::{Session, Stop};
+use kl_exclude::StdMaker;
 use kl_io::MemWords;
 use kl_keys::MacKeys;
 use kl_pcr::Steps;
@@ -68,7 +69,7 @@ fn printed<L: Ledger>(
         Ok(command) => command,
         Err(_) => return Err(Fail::from("the line spells a command")),
     };
-    match session.obey(alloc, command, keys, words, steps) {
+    match session.obey(alloc, command, keys, &mut StdMaker::new(), words, steps) {
         Ok(line) => Ok(line),
         Err(Stop::NoNonce) => Ok(String::from_str(alloc, "no nonce")?),
         Err(Stop::Memory) => Err(Fail::from("there is memory")),

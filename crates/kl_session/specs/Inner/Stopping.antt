@@ -6,7 +6,7 @@ use Rattle.kl_session.specs.declared.stop.Stop.{Stop}
 use Rattle.kl_session.specs.declared.stop.Stop.TheVariants.{NoNonce, Memory}
 use Rattle.kl_session.specs.Calls.{SessionFields}
 use Rattle.kl_session.specs.Polls.{Draws, DoesBegin}
-use Rattle.kl_session.specs.Stopped.{DrawsNone}
+use Rattle.kl_session.specs.Stopped.{DrawsNone, MadeSome}
 
 -- memory ran out, before anything was done or after all was
 abbrev pub IsShort : Stop → SessionFields → SessionFields → (List ℕ → Type 0) → Type 0
@@ -15,6 +15,10 @@ IsShort stop s s' Does = (stop ≡ Memory) × (((line : List ℕ) × Does line) 
 -- the same, where nothing was asked of the outside before anything was done
 abbrev pub IsUndone : Stop → Outside → Outside → SessionFields → SessionFields → (List ℕ → Type 0) → Type 0
 IsUndone stop o o' s s' Does = (stop ≡ Memory) × (((line : List ℕ) × Does line) ⊎ ((s' ≡ s) × (o' ≡ o)))
+
+-- the same, where patterns may have been made before
+abbrev pub IsUnread : Stop → Outside → Outside → SessionFields → SessionFields → (List ℕ → Type 0) → Type 0
+IsUnread stop o o' s s' Does = (stop ≡ Memory) × (((line : List ℕ) × Does line) ⊎ ((s' ≡ s) × MadeSome o o'))
 
 -- a begin was not answered: no nonce could be drawn, or memory ran out
 abbrev pub IsUnbegun : Stop → Outside → Outside → SessionFields → Begin → SessionFields → Type 0

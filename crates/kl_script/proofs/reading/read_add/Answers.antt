@@ -1,4 +1,4 @@
-use Rattle.std.proofs.Common.{◌≢◌, codes, sym, subst, rules, List, ℕ}
+use Rattle.std.proofs.Common.{sym, subst, List, ℕ}
 use Rattle.kl_script.specs.Words.{IsField, IsEscaped}
 use Rattle.kl_script.proofs.Faults.{at_exit}
 use Rattle.kl_script.proofs.Arguments.{word, add_words, spells_add}
@@ -6,11 +6,6 @@ use Rattle.kl_script.proofs.reading.read_add.Goals as goal
 
 pub returns-in_err-words-clause-none : goal.returns-in_err-words-clause-none
 returns-in_err-words-clause-none c = λ is said s. at_exit _ c.in_err-words.ensures.none _ c.from_residual.ensures.1 is _ s.policy s.split
-
-pub returns-then-ne-clause-none : goal.returns-then-ne-clause-none
-returns-then-ne-clause-none c = λ _ said s.
-    let other : word c.as_slice.result.now 7 ≢ codes "flat" = search rules in
-    other (add_words said c.as_slice.ensures.value c.in_ok-words.ensures.found s).kind
 
 pub returns-in_err-agent-clause-none : goal.returns-in_err-agent-clause-none
 returns-in_err-agent-clause-none c = λ _ said s.
@@ -23,6 +18,10 @@ returns-in_default-from_name-clause-none c = λ _ said s.
 pub returns-in_default-read_mask-clause-none : goal.returns-in_default-read_mask-clause-none
 returns-in_default-read_mask-clause-none c = λ _ said s.
     c.in_default-read_mask.ensures.none said.mask (add_words said c.as_slice.ensures.value c.in_ok-words.ensures.found s).mask
+
+pub returns-in_default-read_kind-clause-none : goal.returns-in_default-read_kind-clause-none
+returns-in_default-read_kind-clause-none c = λ _ said s.
+    c.in_default-read_kind.ensures.none said.kind (add_words said c.as_slice.ensures.value c.in_ok-words.ensures.found s).kind
 
 pub returns-in_err-read_field-clause-none : goal.returns-in_err-read_field-clause-none
 returns-in_err-read_field-clause-none c = λ is said s.
@@ -58,6 +57,6 @@ returns-clause-found c = spells_add _ c.as_slice.ensures.value c.in_ok-words.ens
   statics = c.in_ok-statics.ensures.found;
   ak = c.in_ok-ak.ensures.found;
   v = c.in_ok-v.ensures.found;
-  kind = search rules;
+  kind = c.in-Some-read_kind.ensures.found;
   policy = subst (λ (t : List ℕ). IsEscaped c.in_ok-words.policy.now t) (sym c.new-policy.ensures) c.in_ok-unescape_rest.ensures.found;
 }

@@ -22,16 +22,16 @@ unbegun stop o o' s s' b nonce has (e, short) = subst (λ (why : Stop). IsUnbegu
 ])
 
 pub returns-in_default-clause-stopped : goal.returns-in_default-clause-stopped
-returns-in_default-clause-stopped g c = λ keys steps.
+returns-in_default-clause-stopped g c = λ keys maker steps.
     let none = c.nonce_of.ensures.none c.in_default.is in
-    (refl, none.0, none.1 keys steps)
+    (refl, none.0, none.1 keys maker steps)
 
 pub returns-clause-stopped : goal.returns-clause-stopped
 returns-clause-stopped g c =
     IfErr-weaker c.begin_with.result _ _
-    (λ stop short. λ keys steps.
-    let o = outside keys (g.N.Words.told c.args.nonces.now) steps in
-    let o' = outside keys (g.N.Words.told c.nonce_of.new.nonces) steps in
-    let has = c.in-Some.ensures.some keys steps in
+    (λ stop short. λ keys maker steps.
+    let o = outside keys (g.N.Words.told c.args.nonces.now) maker steps in
+    let o' = outside keys (g.N.Words.told c.nonce_of.new.nonces) maker steps in
+    let has = c.in-Some.ensures.some keys maker steps in
     unbegun stop o o' c.args.self.now c.begin_with.new.self c.args.begin c.in-Some.nonce has short)
     c.begin_with.ensures.short

@@ -8,7 +8,9 @@ use Rattle.kl_session.specs.Texts.{now_line}
 use Rattle.kl_session.specs.Session.{Does}
 use Rattle.kl_session.specs.declared.stop.Stop.TheVariants.{Memory}
 use Rattle.kl_session.specs.Inner.Stopping.{IsShort}
-use Rattle.kl_session.proofs.Obeying.{alone, unbegun, unanswered}
+use Rattle.kl_session.specs.Inner.Naming.{Tells}
+use Rattle.kl_session.proofs.Readings.{told_so}
+use Rattle.kl_session.proofs.Obeying.{alone, unread, unbegun, unanswered}
 use Rattle.kl_session.proofs.session.Session.obey.Goals as goal
 
 pub returns-in-Nothing-clause-done : goal.returns-in-Nothing-clause-done
@@ -17,29 +19,57 @@ returns-in-Nothing-clause-done g c = rw c.in-Nothing.is (refl, refl, c.new.ensur
 
 pub returns-in-Add-clause-done : goal.returns-in-Add-clause-done
 unfolding Does
-returns-in-Add-clause-done g c = rw c.in-Add.is (IfOk-weaker c.add.result _ _ (λ line did. (refl, did)) c.add.ensures.done)
+returns-in-Add-clause-done g c =
+    let keys = g.Y.Keys.told c.args.keys.now in
+    let words = g.N.Words.told c.args.nonces.now in
+    let made = g.P.PatternMaker.told in
+    let o = outside keys words (made c.args.patterns.now) c.args.steps.now in
+    let o' = outside keys words (made c.add.new.patterns) c.args.steps.now in
+    let tells : Tells o o' (made c.args.patterns.now) (made c.add.new.patterns) = told_so keys words (made c.args.patterns.now) (made c.add.new.patterns) c.args.steps.now in
+    rw c.in-Add.is (IfOk-weaker c.add.result _ _ (λ line did. did o o' tells) c.add.ensures.done)
 
 pub returns-in-Add-clause-stopped : goal.returns-in-Add-clause-stopped
 unfolding Does
 returns-in-Add-clause-stopped g c =
-    let o = outside (g.Y.Keys.told c.args.keys.now) (g.N.Words.told c.args.nonces.now) c.args.steps.now in
+    let keys = g.Y.Keys.told c.args.keys.now in
+    let words = g.N.Words.told c.args.nonces.now in
+    let made = g.P.PatternMaker.told in
+    let o = outside keys words (made c.args.patterns.now) c.args.steps.now in
+    let o' = outside keys words (made c.add.new.patterns) c.args.steps.now in
+    let tells : Tells o o' (made c.args.patterns.now) (made c.add.new.patterns) = told_so keys words (made c.args.patterns.now) (made c.add.new.patterns) c.args.steps.now in
     let s = c.args.self.now in
     let s' = c.add.new.self in
     let said = c.in-Add.add in
-    rw c.in-Add.is (alone c.add.result o s s' (add said) (DoesAdd said s s') (λ line did. (refl, did)) c.add.ensures.short)
+    rw c.in-Add.is
+    (unread c.add.result o o' s s' (add said) (DoesAdd o o' said s s') (λ line did. did) (λ some. some)
+    (IfErr-weaker c.add.result _ _ (λ stop short. short o o' tells) c.add.ensures.short))
 
 pub returns-in-Replace-clause-done : goal.returns-in-Replace-clause-done
 unfolding Does
-returns-in-Replace-clause-done g c = rw c.in-Replace.is (IfOk-weaker c.replace.result _ _ (λ line did. (refl, did)) c.replace.ensures.done)
+returns-in-Replace-clause-done g c =
+    let keys = g.Y.Keys.told c.args.keys.now in
+    let words = g.N.Words.told c.args.nonces.now in
+    let made = g.P.PatternMaker.told in
+    let o = outside keys words (made c.args.patterns.now) c.args.steps.now in
+    let o' = outside keys words (made c.replace.new.patterns) c.args.steps.now in
+    let tells : Tells o o' (made c.args.patterns.now) (made c.replace.new.patterns) = told_so keys words (made c.args.patterns.now) (made c.replace.new.patterns) c.args.steps.now in
+    rw c.in-Replace.is (IfOk-weaker c.replace.result _ _ (λ line did. did o o' tells) c.replace.ensures.done)
 
 pub returns-in-Replace-clause-stopped : goal.returns-in-Replace-clause-stopped
 unfolding Does
 returns-in-Replace-clause-stopped g c =
-    let o = outside (g.Y.Keys.told c.args.keys.now) (g.N.Words.told c.args.nonces.now) c.args.steps.now in
+    let keys = g.Y.Keys.told c.args.keys.now in
+    let words = g.N.Words.told c.args.nonces.now in
+    let made = g.P.PatternMaker.told in
+    let o = outside keys words (made c.args.patterns.now) c.args.steps.now in
+    let o' = outside keys words (made c.replace.new.patterns) c.args.steps.now in
+    let tells : Tells o o' (made c.args.patterns.now) (made c.replace.new.patterns) = told_so keys words (made c.args.patterns.now) (made c.replace.new.patterns) c.args.steps.now in
     let s = c.args.self.now in
     let s' = c.replace.new.self in
     let said = c.in-Replace.replace in
-    rw c.in-Replace.is (alone c.replace.result o s s' (replace said) (DoesReplace said s s') (λ line did. (refl, did)) c.replace.ensures.short)
+    rw c.in-Replace.is
+    (unread c.replace.result o o' s s' (replace said) (DoesReplace o o' said s s') (λ line did. did) (λ some. some)
+    (IfErr-weaker c.replace.result _ _ (λ stop short. short o o' tells) c.replace.ensures.short))
 
 pub returns-in-Reactivate-clause-done : goal.returns-in-Reactivate-clause-done
 unfolding Does
@@ -48,7 +78,7 @@ returns-in-Reactivate-clause-done g c = rw c.in-Reactivate.is (IfOk-weaker c.rea
 pub returns-in-Reactivate-clause-stopped : goal.returns-in-Reactivate-clause-stopped
 unfolding Does
 returns-in-Reactivate-clause-stopped g c =
-    let o = outside (g.Y.Keys.told c.args.keys.now) (g.N.Words.told c.args.nonces.now) c.args.steps.now in
+    let o = outside (g.Y.Keys.told c.args.keys.now) (g.N.Words.told c.args.nonces.now) (g.P.PatternMaker.told c.args.patterns.now) c.args.steps.now in
     let s = c.args.self.now in
     let s' = c.reactivate.new.self in
     let said = c.in-Reactivate.agent in
@@ -61,7 +91,7 @@ returns-in-Stop-clause-done g c = rw c.in-Stop.is (IfOk-weaker c.stop.result _ _
 pub returns-in-Stop-clause-stopped : goal.returns-in-Stop-clause-stopped
 unfolding Does
 returns-in-Stop-clause-stopped g c =
-    let o = outside (g.Y.Keys.told c.args.keys.now) (g.N.Words.told c.args.nonces.now) c.args.steps.now in
+    let o = outside (g.Y.Keys.told c.args.keys.now) (g.N.Words.told c.args.nonces.now) (g.P.PatternMaker.told c.args.patterns.now) c.args.steps.now in
     let s = c.args.self.now in
     let s' = c.stop.new.self in
     let said = c.in-Stop.agent in
@@ -74,7 +104,7 @@ returns-in-Remove-clause-done g c = rw c.in-Remove.is (IfOk-weaker c.remove.resu
 pub returns-in-Remove-clause-stopped : goal.returns-in-Remove-clause-stopped
 unfolding Does
 returns-in-Remove-clause-stopped g c =
-    let o = outside (g.Y.Keys.told c.args.keys.now) (g.N.Words.told c.args.nonces.now) c.args.steps.now in
+    let o = outside (g.Y.Keys.told c.args.keys.now) (g.N.Words.told c.args.nonces.now) (g.P.PatternMaker.told c.args.patterns.now) c.args.steps.now in
     let s = c.args.self.now in
     let s' = c.remove.new.self in
     let said = c.in-Remove.agent in
@@ -87,7 +117,7 @@ returns-in-Now-clause-done g c = rw c.in-Now.is (IfOk-weaker c.set_now.result _ 
 pub returns-in-Now-clause-stopped : goal.returns-in-Now-clause-stopped
 unfolding Does
 returns-in-Now-clause-stopped g c =
-    let o = outside (g.Y.Keys.told c.args.keys.now) (g.N.Words.told c.args.nonces.now) c.args.steps.now in
+    let o = outside (g.Y.Keys.told c.args.keys.now) (g.N.Words.told c.args.nonces.now) (g.P.PatternMaker.told c.args.patterns.now) c.args.steps.now in
     let s = c.args.self.now in
     let s' = c.set_now.new.self in
     let said = c.in-Now.moment in
@@ -97,27 +127,29 @@ returns-in-Now-clause-stopped g c =
 
 pub returns-in-Begin-clause-done : goal.returns-in-Begin-clause-done
 unfolding Does
-returns-in-Begin-clause-done g c = rw c.in-Begin.is (IfOk-weaker c.begin.result _ _ (λ line did. did (g.Y.Keys.told c.args.keys.now) c.args.steps.now) c.begin.ensures.done)
+returns-in-Begin-clause-done g c = rw c.in-Begin.is (IfOk-weaker c.begin.result _ _ (λ line did. did (g.Y.Keys.told c.args.keys.now) (g.P.PatternMaker.told c.args.patterns.now) c.args.steps.now) c.begin.ensures.done)
 
 pub returns-in-Begin-clause-stopped : goal.returns-in-Begin-clause-stopped
 returns-in-Begin-clause-stopped g c =
     let keys = g.Y.Keys.told c.args.keys.now in
     let n = c.args.steps.now in
+    let made = g.P.PatternMaker.told c.args.patterns.now in
     rw c.in-Begin.is
     (IfErr-weaker c.begin.result _ _
-    (λ why short. unbegun why (outside keys (g.N.Words.told c.args.nonces.now) n) (outside keys (g.N.Words.told c.begin.new.nonces) n) c.args.self.now c.begin.new.self c.in-Begin.begin (short keys n))
+    (λ why short. unbegun why (outside keys (g.N.Words.told c.args.nonces.now) made n) (outside keys (g.N.Words.told c.begin.new.nonces) made n) c.args.self.now c.begin.new.self c.in-Begin.begin (short keys made n))
     c.begin.ensures.stopped)
 
 pub returns-in-Reply-clause-done : goal.returns-in-Reply-clause-done
 unfolding Does
-returns-in-Reply-clause-done g c = rw c.in-Reply.is (IfOk-weaker c.reply.result _ _ (λ line did. did (g.N.Words.told c.args.nonces.now)) c.reply.ensures.done)
+returns-in-Reply-clause-done g c = rw c.in-Reply.is (IfOk-weaker c.reply.result _ _ (λ line did. did (g.N.Words.told c.args.nonces.now) (g.P.PatternMaker.told c.args.patterns.now)) c.reply.ensures.done)
 
 pub returns-in-Reply-clause-stopped : goal.returns-in-Reply-clause-stopped
 returns-in-Reply-clause-stopped g c =
     let words = g.N.Words.told c.args.nonces.now in
+    let made = g.P.PatternMaker.told c.args.patterns.now in
     rw c.in-Reply.is
-    (unanswered c.reply.result (outside (g.Y.Keys.told c.args.keys.now) words c.args.steps.now) (outside (g.Y.Keys.told c.reply.new.keys) words c.reply.new.steps)
-    c.args.self.now c.reply.new.self (reply_fields c.in-Reply.reply) (IfErr-weaker c.reply.result _ _ (λ why short. short words) c.reply.ensures.short))
+    (unanswered c.reply.result (outside (g.Y.Keys.told c.args.keys.now) words made c.args.steps.now) (outside (g.Y.Keys.told c.reply.new.keys) words made c.reply.new.steps)
+    c.args.self.now c.reply.new.self (reply_fields c.in-Reply.reply) (IfErr-weaker c.reply.result _ _ (λ why short. short words made) c.reply.ensures.short))
 
 pub returns-in-State-clause-done : goal.returns-in-State-clause-done
 unfolding Does

@@ -1,4 +1,4 @@
-"""What a worked example is, and the lists that appraisal_cases.py and session_cases.py add theirs to."""
+"""What a worked example is, and the lists that appraisal_cases.py, session_cases.py and policy_cases.py add theirs to."""
 from dataclasses import dataclass
 
 import evidence as ev
@@ -63,8 +63,8 @@ def add(agent, generation, policy=POLICY, **more):
     return ev.add_line(policy, agent=agent, **more), f"installed {agent} generation {generation}"
 
 
-def replace(agent, generation, policy=POLICY):
-    return ev.replace_line(policy, agent), f"installed {agent} generation {generation}"
+def replace(agent, generation, policy=POLICY, **more):
+    return ev.replace_line(policy, agent, **more), f"installed {agent} generation {generation}"
 
 
 def reactivate(agent, generation):

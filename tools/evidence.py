@@ -5,6 +5,7 @@ It is the outside view that examples and tests take their bytes from: nothing he
 import base64
 import hashlib
 import hmac
+import json
 import struct
 from dataclasses import dataclass, field
 
@@ -63,6 +64,20 @@ def list_text(entries):
 
 def flat_policy(entries):
     return "".join(f"{entry.digest.hex()}  {entry.path}\n" for entry in entries)
+
+
+def json_members(entries, **other):
+    """The members of a JSON policy, as Keylime writes it, which names the digest of each entry; `other` ones stand in place of these."""
+    members = {
+        "meta": {"version": 1}, "release": 0, "digests": {entry.path: [entry.digest.hex()] for entry in entries}, "excludes": [],
+        "keyrings": {}, "ima": {"ignored_keyrings": [], "log_hash_alg": "sha1", "dm_policy": None}, "ima-buf": {},
+        "verification-keys": "",
+    }
+    return members | other
+
+
+def json_policy(entries, **other):
+    return json.dumps(json_members(entries, **other), separators=(",", ":"))
 
 
 def selection(alg, select):
@@ -132,12 +147,12 @@ def escape_field(text):
     return escape_rest(text).replace(" ", "\\s") or "\\0"
 
 
-def add_line(policy, *, agent="a1", contact="h:9002", bank="sha256", mask="0x10400", statics="-", ak=AK, v=V):
-    return f"add {agent} {contact} {bank} {mask} {statics} {ak.hex()} {v} flat {escape_rest(policy)}\n"
+def add_line(policy, *, agent="a1", contact="h:9002", bank="sha256", mask="0x10400", statics="-", ak=AK, v=V, kind="flat"):
+    return f"add {agent} {contact} {bank} {mask} {statics} {ak.hex()} {v} {kind} {escape_rest(policy)}\n"
 
 
-def replace_line(policy, agent="a1"):
-    return f"replace {agent} flat {escape_rest(policy)}\n"
+def replace_line(policy, agent="a1", kind="flat"):
+    return f"replace {agent} {kind} {escape_rest(policy)}\n"
 
 
 def begin_line(nonce="n1", agent="a1"):

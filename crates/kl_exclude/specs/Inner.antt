@@ -1,4 +1,4 @@
 -- What private contracts and models alone cite.
 pub mod Compiling
 pub mod Joined
-pub mod Marks
+pub mod Searches

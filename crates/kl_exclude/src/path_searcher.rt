@@ -1,38 +1,49 @@
-//! One search for all patterns.
+//! A search for many patterns in many paths.
 
-ghost use Rattle.std.specs.Prelude.{◌≡◌, ℕ, List, map, IfOk};
+ghost use Rattle.std.specs.Prelude.{◌≡◌, map, IfOk};
 ghost use Rattle.regex_meta.specs.Programs.{pattern_of};
 ghost use Rattle.kl_exclude.specs.Excludes.{any_excludes};
 ghost use Rattle.kl_exclude.specs.Inner.Joined.{AnswersFor};
 
+use crate::apart::{any_hit, searchers};
 use crate::pattern::Pattern;
+use crate::pattern_searcher::PatternSearcher;
 use kl_base::Memory;
 use regex_meta::{Program, Searcher};
 use std::alloc::Global;
 use std::marker::Model;
 
-/// A search for all of some [`Patterns`](crate::Patterns) in many paths. A contract sees the patterns' texts.
+/// A search for all of some patterns in many paths. It holds the memory that it takes, so one is made for all paths of
+/// an appraisal. A contract sees the patterns' texts.
 #[derive(Drop)]
 pub struct PathSearcher<'a> {
     patterns: &'a [Pattern],
-    searcher: Searcher<'a>,
+    search: Search<'a>,
+}
+
+/// How patterns are searched for.
+#[derive(Drop)]
+enum Search<'a> {
+    /// All at once.
+    Together(Searcher<'a>),
+    /// One after the other, since there is no program for all of them.
+    Apart(Vec<PatternSearcher<'a>>),
 }
 
 impl<'a> Model for PathSearcher<'a> {
     ghost use Rattle.std.specs.Prelude.{ℕ, List};
-    ghost use Rattle.regex_meta.specs.Programs.{pattern_of};
-    ghost use Rattle.kl_exclude.specs.Inner.Joined.{AnswersFor};
+    ghost use Rattle.kl_exclude.specs.Inner.Searches.{SearchesFor};
 
     ghost Value = { List (List ℕ) };
 
     ghost view = { λ s. s.patterns.now };
 
-    ghost invariant = { λ s. AnswersFor s.patterns.now (pattern_of s.searcher.program.now) };
+    ghost invariant = { λ s. SearchesFor s.patterns.now s.search };
 }
 
 impl<'a> PathSearcher<'a> {
     /// A search by a program for all these patterns.
-    pub(crate) fn new(
+    pub(crate) fn together(
         alloc: Global,
         patterns: &'a [Pattern],
         program: &'a Program,
@@ -40,9 +51,21 @@ impl<'a> PathSearcher<'a> {
         requires { AnswersFor patterns.now (pattern_of program.now) }
         ensures { IfOk result (λ s. s ≡ patterns.now) }
     {
+        let searcher = Searcher::new(alloc, program)?;
         Ok(PathSearcher {
             patterns,
-            searcher: Searcher::new(alloc, program)?,
+            search: Search::Together(searcher),
+        })
+    }
+
+    /// A search for each of these patterns.
+    pub(crate) fn apart(alloc: Global, patterns: &'a [Pattern]) -> Result<PathSearcher<'a>, Memory>
+        ensures { IfOk result (λ s. s ≡ patterns.now) }
+    {
+        let each = searchers(alloc, patterns)?;
+        Ok(PathSearcher {
+            patterns,
+            search: Search::Apart(each),
         })
     }
 
@@ -51,7 +74,10 @@ impl<'a> PathSearcher<'a> {
         ensures found { result ≡ any_excludes self.old path.now }
         ensures same { self.new ≡ self.old }
     {
-        self.searcher.is_match(path.as_bytes(), 0)
+        match &mut self.search {
+            Search::Together(searcher) => searcher.is_match(path.as_bytes(), 0),
+            Search::Apart(each) => any_hit(each.as_mut_slice(), path),
+        }
     }
 
     /// Of each path, whether some pattern excludes it.
@@ -65,4 +91,15 @@ impl<'a> PathSearcher<'a> {
         }
         Ok(marks)
     }
+}
+
+/// Of each path, whether some pattern excludes it. The patterns are searched for one after another.
+///
+/// # Errors
+/// [`Memory`] where there is none for a search or for the answers.
+pub fn excluded(alloc: Global, patterns: &[Pattern], paths: &[&str]) -> Result<Vec<bool>, Memory>
+    ensures { IfOk result (λ marks. marks.items ≡ map (λ path. any_excludes patterns.now path.now) paths.now) }
+{
+    let mut searcher = PathSearcher::apart(alloc, patterns)?;
+    searcher.excluded(alloc, paths)
 }

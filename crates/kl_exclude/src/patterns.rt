@@ -1,9 +1,8 @@
 //! The patterns of one policy.
 
-ghost use Rattle.std.specs.Prelude.{◌≡◌, ◌↔◌, [], map, IfOk, IfSome, IsTrue};
+ghost use Rattle.std.specs.Prelude.{◌≡◌, ◌↔◌, [], map, IfOk, IsTrue};
 ghost use Rattle.kl_exclude.specs.Excludes.{any_excludes};
 
-use crate::apart::excluded;
 use crate::path_searcher::PathSearcher;
 use crate::pattern::Pattern;
 use crate::program::join;
@@ -67,16 +66,22 @@ impl Patterns {
         self.list.is_empty()
     }
 
-    /// A search for all patterns at once, in many paths, or `None` where there is no program for that.
+    /// Whether there is one program for all of them.
+    #[cfg(test)]
+    pub(crate) fn are_joined(&self) -> bool {
+        self.program.is_some()
+    }
+
+    /// A search for these patterns in many paths: for all at once, where there is a program for that.
     ///
     /// # Errors
     /// [`Memory`] where there is none for the search.
-    pub fn searcher(&self, alloc: Global) -> Result<Option<PathSearcher<'_>>, Memory>
-        ensures { IfOk result (λ o. IfSome o (λ s. s ≡ self.now)) }
+    pub fn searcher(&self, alloc: Global) -> Result<PathSearcher<'_>, Memory>
+        ensures { IfOk result (λ s. s ≡ self.now) }
     {
         match &self.program {
-            Some(program) => Ok(Some(PathSearcher::new(alloc, self.list.as_slice(), program)?)),
-            None => Ok(None),
+            Some(program) => PathSearcher::together(alloc, self.list.as_slice(), program),
+            None => PathSearcher::apart(alloc, self.list.as_slice()),
         }
     }
 
@@ -87,9 +92,7 @@ impl Patterns {
     pub fn excluded(&self, alloc: Global, paths: &[&str]) -> Result<Vec<bool>, Memory>
         ensures { IfOk result (λ marks. marks.items ≡ map (λ path. any_excludes self.now path.now) paths.now) }
     {
-        match self.searcher(alloc)? {
-            Some(mut searcher) => searcher.excluded(alloc, paths),
-            None => excluded(alloc, self.list.as_slice(), paths),
-        }
+        let mut searcher = self.searcher(alloc)?;
+        searcher.excluded(alloc, paths)
     }
 }

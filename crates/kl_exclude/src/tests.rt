@@ -82,7 +82,7 @@ fn answer_so(
     let patterns = Patterns::new(alloc, list)?;
     let together = patterns.excluded(alloc, paths)?;
     let same = apart.as_slice() == wanted && together.as_slice() == wanted;
-    Ok(same && patterns.searcher(alloc)?.is_some() == at_once)
+    Ok(same && patterns.are_joined() == at_once)
 }
 
 #[test]

@@ -42,6 +42,36 @@ fn which_texts_are_json(rt: HostRuntime) -> Result<(), Fail> {
     Ok(())
 }
 
+/// Texts, and whether each is a value that can be told.
+const TREES: [(&str, bool); 8] = [
+    (
+        "{\"b\": [1, -2, -0, 2.5e3, 18446744073709551616], \"a\": {\"y\": true, \"x\": null}, \"b\": \"\\u00e9\"}",
+        true,
+    ),
+    ("[{\"twice\": 1, \"twice\": [], \"\": {}}]", true),
+    ("\"x\"", true),
+    ("1e999", false),
+    ("[1, -1e999]", false),
+    ("{\"a\": 1e999}", false),
+    ("[1", false),
+    ("1 2", false),
+];
+
+#[test]
+fn a_tree_has_the_value_of_its_text(rt: HostRuntime) -> Result<(), Fail> {
+    for (text, known) in TREES {
+        let mut scratch = Scratch::new(rt.alloc());
+        let tree = tree_of(rt.alloc(), text, &mut scratch)?;
+        let value = match &tree {
+            Some(tree) => owned(rt.alloc(), tree)?,
+            None => None,
+        };
+        let parsed = parse(rt.alloc(), text.as_bytes()).ok();
+        assert!(rt; value == parsed && value.is_some() == known, "{text}");
+    }
+    Ok(())
+}
+
 const OBJECT: &[u8] =
     b"{\"text\": \"x\", \"count\": 7, \"large\": 18446744073709551616, \"sign\": -1, \"part\": 1.5, \
     \"null\": null, \"map\": {}, \"list\": [1], \"twice\": 1, \"twice\": 9}";

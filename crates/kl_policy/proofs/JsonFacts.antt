@@ -1,5 +1,5 @@
 -- What a JSON policy's value says, by the values in memory.
-use Rattle.std.proofs.Common.{◌≡◌, ℕ, zero, suc, ◌+◌, ◌<◌, ◌≤◌, Bool, true, false, Option, Some, None, option_map, option_and_then, Result, Ok, Err, IfOk, List, [], ◌∷◌, ◌++◌, length, map, take, drop, get_or, All, refl, sym, ap, subst, ◌∙◌, arith, eqb-true, codes, string_bytes, IsSome, IsTrue, is_some, ◌↔◌, ◌==◌}
+use Rattle.std.proofs.Common.{◌≡◌, ℕ, zero, suc, ◌<◌, ◌≤◌, Bool, Option, Some, None, option_map, option_and_then, Result, Ok, Err, IfOk, List, [], ◌∷◌, ◌++◌, length, get_or, refl, sym, ap, subst, ◌∙◌, arith, eqb-true, codes, string_bytes, IsSome, IsTrue, is_some, ◌↔◌, ◌==◌}
 use Rattle.std.proofs.lemmas.List.Elements.{All-nil, All-cons}
 use Rattle.std.proofs.lemmas.List.Sums.{fold_push}
 use Rattle.std.specs.Cmp.Lexicographic.{slice_cmp, nat_list_cmp_total}
@@ -7,8 +7,8 @@ use Rattle.std.specs.FinMap as finite_map
 use Rattle.std.specs.FinSet.{insert, from_list, from_list_push, slice_cmp-IsAntisymmetric, nat_cmp-IsAntisymmetric}
 use Rattle.std.specs.List.{AllZip}
 use Rattle.std.specs.Ordering.{nat_cmp}
-use Rattle.serde_json.specs.Data.{Data, string, array, object, Items, no_items, item, Members, no_members, member}
-use Rattle.serde_json.specs.Find.{get, as_str, as_array, as_object}
+use Rattle.serde_json.specs.Data.{Data, string, array, object}
+use Rattle.serde_json.specs.Find.{get, as_str}
 use Rattle.serde_json.specs.View.{view, items_view, members_view}
 use Rattle.serde_json.specs.declared.value.Value.{Value}
 use Rattle.kl_exclude.specs.Told.{MakerTold}
@@ -17,7 +17,7 @@ use Rattle.kl_json.specs.Reading.{Reads}
 use Rattle.kl_json.specs.declared.fault.JsonFault.TheVariants.{NotJson, Missing, Kind, Range, Memory as no_memory}
 use Rattle.kl_entry.specs.Lines.{IsFirstFailing}
 use Rattle.kl_policy.specs.Digests.{DigestMap, SpellsDigest}
-use Rattle.kl_policy.specs.Json.{Listed, texts_in, as_texts, listed_in, as_blank, with_path, map_of, IsDecoded, IsGood, IsFirstBadDigest, HasListing, HasParts, IsPartsFault, IsShort, optional, read_or}
+use Rattle.kl_policy.specs.Json.{Listed, texts_in, as_texts, listed_in, as_blank, with_path, map_of, IsDecoded, IsGood, IsFirstBadDigest, HasListing, HasParts, IsPartsFault, optional, read_or}
 use Rattle.kl_policy.specs.Inner.JsonParts.{Entry, AreTexts, SpellsValue, SpellsAll, IsCopyFault, IsTextsFault, IsListingFault, IsRestFault, IsParseFault, IsCompileFault}
 use Rattle.kl_policy.specs.Making.{IsJsonFault}
 use Rattle.kl_policy.specs.declared.fault.Limit.TheVariants.{Paths, Patterns, PatternBytes}

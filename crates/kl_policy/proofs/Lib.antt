@@ -10,3 +10,5 @@ pub mod SamePolicy
 pub mod OneFault
 pub mod JsonFacts
 pub mod Crosses
+pub mod PutFacts
+pub mod TreeParts

@@ -1,5 +1,5 @@
 -- A text has one reading, or one reason against it that the text alone settles.
-use Rattle.std.proofs.Common.{◌≡◌, ◌⊎◌, ℕ, zero, suc, ◌<◌, ◌≤◌, Bool, true, false, Option, Some, None, option_and_then, List, [], ◌∷◌, ◌++◌, length, slice_get, All, IsSome, IsSomeAnd, is_some, inl, inr, refl, sym, ap, subst, ◌∙◌, arith, codes, length-append}
+use Rattle.std.proofs.Common.{◌≡◌, ◌⊎◌, ℕ, zero, suc, ◌<◌, ◌≤◌, Bool, true, Option, Some, None, option_and_then, List, [], ◌∷◌, ◌++◌, length, slice_get, All, IsSome, IsSomeAnd, is_some, inl, inr, refl, sym, ap, subst, ◌∙◌, arith, codes, length-append}
 use Rattle.std.proofs.Math.Seq.{get_or-append_seam}
 use Rattle.std.proofs.lemmas.Bool.{false≢true}
 use Rattle.std.proofs.lemmas.List.Elements.{All-nil, All-cons}

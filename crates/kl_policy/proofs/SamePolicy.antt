@@ -7,8 +7,8 @@ use Rattle.kl_json.specs.Members.{member_as}
 use Rattle.kl_json.specs.Reading.{Reads}
 use Rattle.kl_policy.specs.Digests.{DigestMap, SpellsDigest}
 use Rattle.kl_policy.specs.PolicyFields.{PolicyFields}
-use Rattle.kl_policy.specs.Json.{Listed, as_listing, map_of, IsDecoded, Decodes, HasDigests, HasPatterns, HasChoice, HasParts, as_texts, as_choice, optional}
-use Rattle.kl_policy.specs.Reading.{IsFlat, IsJson, IsReading}
+use Rattle.kl_policy.specs.Json.{Listed, as_listing, map_of, IsDecoded, Decodes, HasDigests, HasPatterns, HasChoice, HasParts}
+use Rattle.kl_policy.specs.Reading.{IsReading}
 use Rattle.kl_states.specs.declared.policy_kind.PolicyKind.{PolicyKind}
 use Rattle.kl_states.specs.declared.policy_kind.PolicyKind.TheVariants.{Flat, Json}
 use Rattle.kl_policy.proofs.OnePolicy.{digests_same}

@@ -1,7 +1,7 @@
 -- The flat allowlist: a line is a digest in hexadecimal digits, two spaces and a path, as `sha256sum` writes them in text
 -- mode. Its lines in binary mode, with a space and a `*` before the path, and those of an escaped path, which begin with a
 -- backslash, are no such lines.
-use Rattle.std.specs.Prelude.{◌≡◌, ℕ, ◌<◌, ◌≤◌, ◌++◌, ◌⊎◌, List, [], ◌∷◌, length, filter, Bool, true, false, All, codes, Result, Ok, Err, ⊤}
+use Rattle.std.specs.Prelude.{◌≡◌, ℕ, ◌<◌, ◌≤◌, ◌++◌, ◌⊎◌, List, [], ◌∷◌, length, filter, Bool, true, false, codes, Result, Ok, Err, ⊤}
 use Rattle.std.specs.FinMap as finite_map
 use Rattle.std.specs.List.{AllZip}
 use Rattle.kl_entry.specs.Lines.{lines_of, IsFirstFailing}

@@ -1,5 +1,5 @@
 -- What private contracts and models alone cite.
+pub mod Filling
 pub mod JsonParts
 pub mod Packed
-pub mod Searching
 pub mod Table

@@ -1,5 +1,5 @@
 -- What reading a policy asks of what makes its patterns, and why a text is no policy.
-use Rattle.std.specs.Prelude.{◌≡◌, ℕ, List, Bool, true, false, Result, Err, ⊤}
+use Rattle.std.specs.Prelude.{◌≡◌, ℕ, List, Bool, true, false, Err, ⊤}
 use Rattle.serde_json.specs.Data.{Data}
 use Rattle.kl_exclude.specs.Compiled.{IsFaultOf, AreAsked}
 use Rattle.kl_exclude.specs.Told.{MakerTold, Logs, RefusesNone}

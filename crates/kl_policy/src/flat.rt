@@ -15,7 +15,6 @@ use crate::policy::Policy;
 use kl_entry::lines;
 use kl_exclude::Patterns;
 use kl_states::PolicyKind;
-use memchr::memchr_iter;
 use std::alloc::Global;
 
 /// Reads a flat policy: an allowlist as `sha256sum` writes it in text mode, and not in binary mode (with a
@@ -80,15 +79,12 @@ pub fn flat_digests(alloc: Global, text: &str) -> Result<DigestMap, PolicyFault>
     Ok(digests)
 }
 
-/// The fewest bytes of a line for which room is taken before it is read: a table takes no more than thrice the text.
-const LEAST_LINE: usize = 80;
-
 /// The digests of the lines of `text`, by their paths.
 fn collect(alloc: Global, text: &str) -> Result<DigestMap, PolicyFault>
     ensures digests { IfOk result (λ digests. ListsDigests text.now digests) }
     ensures fault { IfErr result (λ fault. IsFlatFault text.now fault) }
 {
-    let mut digests = DigestMap::with_room(alloc, room_for(text))?;
+    let mut digests = DigestMap::new(alloc);
     let mut number = 0;
     for line in lines(text) {
         if !line.is_empty() {
@@ -104,10 +100,4 @@ fn collect(alloc: Global, text: &str) -> Result<DigestMap, PolicyFault>
         digests.sort();
     }
     Ok(digests)
-}
-
-/// For how many paths room is taken at once: one a line, but not for very short ones.
-fn room_for(text: &str) -> usize {
-    let newlines = memchr_iter(b'\n', text.as_bytes()).count();
-    newlines.min(text.len() / LEAST_LINE)
 }

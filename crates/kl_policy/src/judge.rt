@@ -9,7 +9,7 @@ use crate::policy::Policy;
 use crate::why::Why;
 use kl_base::Memory;
 use kl_entry::{Entry, violation};
-use kl_exclude::{PathSearcher, Patterns};
+use kl_exclude::PathSearcher;
 use std::alloc::Global;
 use std::marker::Model;
 
@@ -18,25 +18,15 @@ use std::marker::Model;
 #[derive(Drop)]
 pub struct Judge<'a> {
     policy: &'a Policy,
-    search: Search<'a>,
-}
-
-/// How the exclude patterns are searched for.
-#[derive(Drop)]
-enum Search<'a> {
-    /// No entry has needed them yet.
-    NotBegun,
-    /// All at once.
-    Together(PathSearcher<'a>),
-    /// One after the other, since there is no program for all of them.
-    Apart,
+    /// The search for its patterns, once an entry has needed it.
+    searcher: Option<PathSearcher<'a>>,
 }
 
 impl<'a> Model for Judge<'a> {
+    ghost use Rattle.std.specs.Prelude.{◌≡◌, IfSome};
     ghost use Rattle.std.specs.Coded.{codes};
     ghost use Rattle.kl_policy.specs.Digests.{digest_map_code};
     ghost use Rattle.kl_policy.specs.PolicyFields.{PolicyFields};
-    ghost use Rattle.kl_policy.specs.Inner.Searching.{SearchesFor};
 
     ghost Value = { PolicyFields };
 
@@ -44,7 +34,7 @@ impl<'a> Model for Judge<'a> {
 
     ghost view = { λ j. j.policy.now };
 
-    ghost invariant = { λ j. SearchesFor j.policy.now.patterns j.search };
+    ghost invariant = { λ j. IfSome j.searcher (λ searcher. searcher ≡ j.policy.now.patterns) };
 }
 
 impl<'a> Judge<'a> {
@@ -54,7 +44,7 @@ impl<'a> Judge<'a> {
     {
         Judge {
             policy,
-            search: Search::NotBegun,
+            searcher: None,
         }
     }
 
@@ -100,27 +90,16 @@ impl<'a> Judge<'a> {
         ensures plain { self.old.patterns ≡ [] → IsOk result }
         ensures same { self.new ≡ self.old }
     {
+        if let Some(searcher) = &mut self.searcher {
+            return Ok(searcher.excludes(path));
+        }
         let patterns = &self.policy.content().patterns;
         if patterns.is_empty() {
             return Ok(false);
         }
-        if let Search::NotBegun = self.search {
-            self.search = match patterns.searcher(alloc)? {
-                Some(searcher) => Search::Together(searcher),
-                None => Search::Apart,
-            };
-        }
-        match &mut self.search {
-            Search::Together(searcher) => Ok(searcher.excludes(path)),
-            _ => is_excluded(alloc, patterns, path),
-        }
+        let mut searcher = patterns.searcher(alloc)?;
+        let found = searcher.excludes(path);
+        self.searcher = Some(searcher);
+        Ok(found)
     }
-}
-
-/// Whether some pattern excludes the path, searched for one after the other.
-fn is_excluded(alloc: Global, patterns: &Patterns, path: &str) -> Result<bool, Memory>
-    ensures { IfOk result (λ found. found ≡ any_excludes patterns.now path.now) }
-{
-    let marks = patterns.excluded(alloc, &[path])?;
-    Ok(marks[0])
 }

@@ -72,9 +72,10 @@ impl Policy {
         self.content().source.as_str()
     }
 
-    /// The form of that text.
+    /// The form of that text. A flat policy excludes no path.
     pub fn kind(&self) -> PolicyKind
-        ensures { result ≡ self.now.kind }
+        ensures kind { result ≡ self.now.kind }
+        ensures flat { result ≡ PolicyKind.Flat → self.now.patterns ≡ [] }
     {
         self.content().kind
     }

@@ -6,7 +6,7 @@ ghost use Rattle.kl_policy.specs.Reading.{IsPolicy};
 
 use crate::fault::PolicyFault;
 use crate::flat::{flat_digests, flat_policy};
-use crate::json::{json_parts, json_policy};
+use crate::json_text::{json_parts, json_policy};
 use crate::policy::Policy;
 use kl_exclude::PatternMaker;
 use kl_states::PolicyKind;

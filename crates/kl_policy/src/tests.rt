@@ -12,14 +12,17 @@ const FLAT: &str = "00FF  /bin/a\n\nab   c d\n00ff11  /bin/a\n17  /bin/a\n00ff  
 // there, of ab at ` c d`, of 01 at `/bin/a`, and of 00ff at `/bin/b`. The first is Python's
 // hashlib.sha1(bytes.fromhex("0a000000" + b"sha256:\0".hex() + "00ff" + "07000000" + b"/bin/a\0".hex())), and the
 // others come in the same way.
-const HASHES: [&str; 6] = [
-    "801e095fe4d9789e9fd9f7545da38b5304160289",
-    "bc9aa6ed21cecfabdc5e36b71ba1a27174bc098b",
-    "ef5991ca2317a00055a4670f66d887cb3c7e63e7",
-    "9d948a084475215790e61e278ab63954b12d0df9",
-    "caa77f9931d07971a6e7c67dda17c4f1335a3de8",
-    "b57ad9c8d977f43c868fab916b50f192d51cf545",
-];
+const A_00FF: &str = "801e095fe4d9789e9fd9f7545da38b5304160289";
+
+const A_00FF11: &str = "bc9aa6ed21cecfabdc5e36b71ba1a27174bc098b";
+
+const A_17: &str = "ef5991ca2317a00055a4670f66d887cb3c7e63e7";
+
+const C_AB: &str = "9d948a084475215790e61e278ab63954b12d0df9";
+
+const A_01: &str = "caa77f9931d07971a6e7c67dda17c4f1335a3de8";
+
+const B_00FF: &str = "b57ad9c8d977f43c868fab916b50f192d51cf545";
 
 const ZEROS: &str = "0000000000000000000000000000000000000000";
 
@@ -33,23 +36,25 @@ fn entry<'a>(hash: &str, digest: &[u8], path: &'a str) -> Result<Entry<'a>, Fail
     Ok(Entry::new(bytes, "sha256", digest, path))
 }
 
+/// Template hashes, digests and paths of entries, and why the policy above does not allow them.
+const FLAT_JUDGED: [(&str, &[u8], &str, Option<Why>); 8] = [
+    (A_00FF, &[0, 255], "/bin/a", None),
+    (A_00FF11, &[0, 255, 17], "/bin/a", None),
+    (A_17, &[23], "/bin/a", None),
+    (C_AB, &[171], " c d", None),
+    (A_01, &[1], "/bin/a", Some(Why::Digest)),
+    (B_00FF, &[0, 255], "/bin/b", Some(Why::Unknown)),
+    (A_00FF, &[0, 255], "/bin/b", Some(Why::Inconsistent)),
+    (ZEROS, &[0, 255], "/bin/a", Some(Why::Violation)),
+];
+
 #[test]
 fn what_a_flat_policy_allows(rt: HostRuntime) -> Result<(), Fail> {
     let policy = read_flat(rt.alloc(), FLAT)?;
-    let cases: [(&str, &[u8], &str, Option<Why>); 8] = [
-        (HASHES[0], &[0, 255], "/bin/a", None),
-        (HASHES[1], &[0, 255, 17], "/bin/a", None),
-        (HASHES[2], &[23], "/bin/a", None),
-        (HASHES[3], &[171], " c d", None),
-        (HASHES[4], &[1], "/bin/a", Some(Why::Digest)),
-        (HASHES[5], &[0, 255], "/bin/b", Some(Why::Unknown)),
-        (HASHES[0], &[0, 255], "/bin/b", Some(Why::Inconsistent)),
-        (ZEROS, &[0, 255], "/bin/a", Some(Why::Violation)),
-    ];
-    for (hash, digest, path, want) in cases {
+    for (hash, digest, path, want) in FLAT_JUDGED {
         let entries = [entry(hash, digest, path)?];
         let bad = policy.first_bad(rt.alloc(), &entries)?;
-        assert_eq!(rt; bad, want.map(|why| (0, why)), "{path}");
+        assert!(rt; bad == want.map(|why| (0, why)), "{path}");
     }
     Ok(())
 }
@@ -62,44 +67,47 @@ fn a_path_may_have_many_digests(rt: HostRuntime) -> Result<(), Fail> {
     }
     let policy = read_flat(rt.alloc(), text.as_str())?;
     let entries = [
-        entry(HASHES[1], &[0, 255, 17], "/bin/a")?,
-        entry(HASHES[0], &[0, 255], "/bin/a")?,
+        entry(A_00FF11, &[0, 255, 17], "/bin/a")?,
+        entry(A_00FF, &[0, 255], "/bin/a")?,
     ];
     let bad = policy.first_bad(rt.alloc(), &entries)?;
     assert!(rt; bad == Some((1, Why::Digest)) && policy.source() == text.as_str());
     Ok(())
 }
 
+/// Texts, and the first line of each that a flat policy may not have.
+const LINES: [(&str, Option<usize>); 18] = [
+    ("", None),
+    ("\n\n", None),
+    ("00  a\n", None),
+    ("00  a\r\n", None),
+    ("00   ", None),
+    (
+        "aBaBaBaBaBaBaBaBaBaBaBaBaBaBaBaBaBaBaBaBaBaBaBaBaBaBaBaBaBaBaBaBaBaBaBaBaBaBaBaBaBaBaBaBaBaBaBaBaBaBaBaBaBaBaBaBaBaBaBaBaBaBaBaB  a",
+        None,
+    ),
+    (
+        "aBaBaBaBaBaBaBaBaBaBaBaBaBaBaBaBaBaBaBaBaBaBaBaBaBaBaBaBaBaBaBaBaBaBaBaBaBaBaBaBaBaBaBaBaBaBaBaBaBaBaBaBaBaBaBaBaBaBaBaBaBaBaBaB00  a",
+        Some(0),
+    ),
+    ("\n00  a\n\n0g  b\n0  c", Some(3)),
+    ("000  a", Some(0)),
+    ("00 a", Some(0)),
+    ("00 *a", Some(0)),
+    ("\\00  a\\\\b", Some(0)),
+    ("00\t a", Some(0)),
+    ("00  ", Some(0)),
+    ("00", Some(0)),
+    ("  a", Some(0)),
+    ("00  a\n ", Some(1)),
+    ("00  a\n# b", Some(1)),
+];
+
 #[test]
 fn the_first_bad_line_counts_empty_ones(rt: HostRuntime) -> Result<(), Fail> {
-    for (text, want) in [
-        ("", None),
-        ("\n\n", None),
-        ("00  a\n", None),
-        ("00  a\r\n", None),
-        ("00   ", None),
-        (
-            "aBaBaBaBaBaBaBaBaBaBaBaBaBaBaBaBaBaBaBaBaBaBaBaBaBaBaBaBaBaBaBaBaBaBaBaBaBaBaBaBaBaBaBaBaBaBaBaBaBaBaBaBaBaBaBaBaBaBaBaBaBaBaBaB  a",
-            None,
-        ),
-        (
-            "aBaBaBaBaBaBaBaBaBaBaBaBaBaBaBaBaBaBaBaBaBaBaBaBaBaBaBaBaBaBaBaBaBaBaBaBaBaBaBaBaBaBaBaBaBaBaBaBaBaBaBaBaBaBaBaBaBaBaBaBaBaBaBaB00  a",
-            Some(0),
-        ),
-        ("\n00  a\n\n0g  b\n0  c", Some(3)),
-        ("000  a", Some(0)),
-        ("00 a", Some(0)),
-        ("00 *a", Some(0)),
-        ("\\00  a\\\\b", Some(0)),
-        ("00\t a", Some(0)),
-        ("00  ", Some(0)),
-        ("00", Some(0)),
-        ("  a", Some(0)),
-        ("00  a\n ", Some(1)),
-        ("00  a\n# b", Some(1)),
-    ] {
+    for (text, want) in LINES {
         let fault = read_flat(rt.alloc(), text).err();
-        assert_eq!(rt; fault, want.map(PolicyFault::Line), "{text:?}");
+        assert!(rt; fault == want.map(PolicyFault::Line), "{text:?}");
     }
     Ok(())
 }
@@ -116,63 +124,70 @@ fn at_most_262144_distinct_paths(rt: HostRuntime) -> Result<(), Fail> {
         ("x\n", Some(PolicyFault::Line(262_146))),
     ] {
         text.push_str(more)?;
-        assert_eq!(rt; read_flat(rt.alloc(), text.as_str()).err(), want);
+        let fault = read_flat(rt.alloc(), text.as_str()).err();
+        assert!(rt; fault == want, "{more}");
     }
     Ok(())
 }
 
+const FAULT_TEXTS: [(PolicyFault, &str); 9] = [
+    (
+        PolicyFault::Line(262_146),
+        "line 262146 is no digest, two spaces and a path",
+    ),
+    (
+        PolicyFault::Limit(Limit::Paths),
+        "the policy has more than 262144 paths",
+    ),
+    (
+        PolicyFault::Limit(Limit::Patterns),
+        "the policy has more than 32 patterns",
+    ),
+    (
+        PolicyFault::Limit(Limit::PatternBytes),
+        "the policy has a pattern of more than 512 bytes",
+    ),
+    (
+        PolicyFault::BadDigest(2, 1),
+        "digest 1 of path 2 is no digest",
+    ),
+    (
+        PolicyFault::Unsupported("keyrings"),
+        "keyrings is not supported",
+    ),
+    (
+        PolicyFault::Json(JsonFault::NotJson),
+        "the policy: the text is no JSON",
+    ),
+    (
+        PolicyFault::Exclude(ExcludeFault::Syntax(0)),
+        "the policy: exclude 0 is no pattern",
+    ),
+    (PolicyFault::Memory, "out of memory"),
+];
+
+const WHY_TEXTS: [(Why, &str); 4] = [
+    (Why::Violation, "a violation"),
+    (
+        Why::Inconsistent,
+        "the template hash is not that of the entry's data",
+    ),
+    (Why::Unknown, "no digest is known for the path"),
+    (
+        Why::Digest,
+        "the digest is none of those known for the path",
+    ),
+];
+
 #[test]
 fn faults_and_reasons_print_what_is_wrong(rt: HostRuntime) -> Result<(), Fail> {
-    for (fault, words) in [
-        (
-            PolicyFault::Line(262_146),
-            "line 262146 is no digest, two spaces and a path",
-        ),
-        (
-            PolicyFault::Limit(Limit::Paths),
-            "the policy has more than 262144 paths",
-        ),
-        (
-            PolicyFault::Limit(Limit::Patterns),
-            "the policy has more than 32 patterns",
-        ),
-        (
-            PolicyFault::Limit(Limit::PatternBytes),
-            "the policy has a pattern of more than 512 bytes",
-        ),
-        (
-            PolicyFault::BadDigest(2, 1),
-            "digest 1 of path 2 is no digest",
-        ),
-        (
-            PolicyFault::Unsupported("keyrings"),
-            "keyrings is not supported",
-        ),
-        (
-            PolicyFault::Json(JsonFault::NotJson),
-            "the policy: the text is no JSON",
-        ),
-        (
-            PolicyFault::Exclude(ExcludeFault::Syntax(0)),
-            "the policy: exclude 0 is no pattern",
-        ),
-        (PolicyFault::Memory, "out of memory"),
-    ] {
-        assert_eq!(rt; fault.to_string(rt.alloc())?.as_str(), words);
+    for (fault, words) in FAULT_TEXTS {
+        let text = fault.to_string(rt.alloc())?;
+        assert!(rt; text.as_str() == words, "{words}");
     }
-    for (why, words) in [
-        (Why::Violation, "a violation"),
-        (
-            Why::Inconsistent,
-            "the template hash is not that of the entry's data",
-        ),
-        (Why::Unknown, "no digest is known for the path"),
-        (
-            Why::Digest,
-            "the digest is none of those known for the path",
-        ),
-    ] {
-        assert_eq!(rt; why.to_string(rt.alloc())?.as_str(), words);
+    for (why, words) in WHY_TEXTS {
+        let text = why.to_string(rt.alloc())?;
+        assert!(rt; text.as_str() == words, "{words}");
     }
     Ok(())
 }
@@ -350,7 +365,8 @@ fn json_fault(alloc: Global, text: &str) -> Result<Option<PolicyFault>, Fail> {
 #[test]
 fn what_is_wrong_with_a_json_policy(rt: HostRuntime) -> Result<(), Fail> {
     for (text, want) in JSON_FAULTS {
-        assert_eq!(rt; json_fault(rt.alloc(), text)?, want, "{text}");
+        let fault = json_fault(rt.alloc(), text)?;
+        assert!(rt; fault == want, "{text}");
     }
     Ok(())
 }
@@ -379,7 +395,8 @@ fn a_json_policy_has_at_most_32_patterns_of_at_most_512_bytes(rt: HostRuntime) -
         (33, 513, Some(PolicyFault::Limit(Limit::Patterns))),
     ] {
         let text = with_patterns(rt.alloc(), count, bytes)?;
-        assert_eq!(rt; json_fault(rt.alloc(), text.as_str())?, want);
+        let fault = json_fault(rt.alloc(), text.as_str())?;
+        assert!(rt; fault == want, "{count} of {bytes}");
     }
     Ok(())
 }
@@ -392,10 +409,8 @@ fn a_pattern_may_be_too_large(rt: HostRuntime) -> Result<(), Fail> {
     ] {
         let mut maker = MemMaker::new(rt.alloc(), &[call])?;
         let fault = read_json(rt.alloc(), text, &mut maker).err();
-        assert_eq!(rt;
-            fault,
-            Some(PolicyFault::Exclude(ExcludeFault::TooLarge(place)))
-        );
+        let want = PolicyFault::Exclude(ExcludeFault::TooLarge(place));
+        assert!(rt; fault == Some(want), "{text}");
     }
     Ok(())
 }

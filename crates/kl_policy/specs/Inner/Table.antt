@@ -1,5 +1,5 @@
 -- How a hash table keeps the digests of each path.
-use Rattle.std.specs.Prelude.{ℕ, List, map, string_bytes, String}
+use Rattle.std.specs.Prelude.{map, string_bytes, String}
 use Rattle.std.specs.FinMap as finite_map
 use Rattle.std.specs.FinSet.{empty, insert}
 use Rattle.std.specs.HashMap.{HashMap}

@@ -9,7 +9,7 @@ use Rattle.kl_policy.proofs.flat.collect.Goals.{then-not-is_empty+in-Some-read_l
 
 pub loop-line-init : goal.loop-line-init
 loop-line-init c = record {
-  collected = subst (λ digests. LinesCollect [] digests) (sym c.in_ok-digests.ensures) collect_none;
+  collected = subst (λ digests. LinesCollect [] digests) (sym c.new-digests.ensures) collect_none;
   counted = refl;
   cut = ap lines_of (c.into_iter-line-iterator.ensures.into_iter_gives ∙ c.lines-line-items.ensures.starts);
 }

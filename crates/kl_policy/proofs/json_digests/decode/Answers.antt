@@ -1,11 +1,10 @@
 -- One path more is put in, or its texts are the first that spell no digests.
-use Rattle.std.proofs.Common.{◌≡◌, ◌+◌, ◌<◌, ◌++◌, ◌∷◌, [], ℕ, List, Option, Some, length, refl, sym, ap, subst, ◌∙◌, arith, length-append, append_assoc, append-nil, IsSome, string_bytes, rules}
+use Rattle.std.proofs.Common.{◌≡◌, ◌+◌, ◌++◌, ◌∷◌, [], List, Some, refl, sym, ap, subst, ◌∙◌, length-append, append_assoc, append-nil, IsSome, string_bytes, rules}
 use Rattle.std.proofs.lemmas.Slice.Zip.{all_zipped_more}
 use Rattle.std.specs.FinMap as finite_map
-use Rattle.std.specs.List.{AllZip}
 use Rattle.serde_json.specs.View.{view, members_view}
 use Rattle.kl_policy.specs.Digests.{DigestMap, DigestSet}
-use Rattle.kl_policy.specs.Json.{Listed, as_texts, listed_in, with_path, map_of, IsDecoded}
+use Rattle.kl_policy.specs.Json.{Listed, as_texts, listed_in, map_of, IsDecoded}
 use Rattle.kl_policy.specs.Inner.JsonParts.{Entry, SpellsAll, IsListingFault}
 use Rattle.kl_policy.proofs.JsonFacts.{read_entry, are_members, some_is, member_texts, listing_fault, decoded_member, zip_both, map_push}
 use Rattle.kl_policy.proofs.json_digests.decode.Goals as goal

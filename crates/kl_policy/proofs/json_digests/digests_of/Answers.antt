@@ -1,12 +1,9 @@
 -- The listing is the policy's own.
-use Rattle.std.proofs.Common.{◌≡◌, ◌≤◌, ◌<◌, Some, None, IsSome, is_some, codes, length, sym, ap, ◌∙◌, arith, option_and_then, rules}
+use Rattle.std.proofs.Common.{◌≡◌, Some, IsSome, ap, ◌∙◌, arith, option_and_then, rules}
 use Rattle.std.proofs.lemmas.Result.{IfOk-weaker, IfErr-weaker}
 use Rattle.std.proofs.lemmas.Slice.Zip.{AllZip-long}
-use Rattle.serde_json.specs.Data.{object}
-use Rattle.serde_json.specs.Find.{get, as_object}
 use Rattle.serde_json.specs.View.{view, members_view}
-use Rattle.kl_json.specs.Members.{member_as}
-use Rattle.kl_policy.specs.Json.{Listed, listed_in, as_listing, HasListing, HasDigests}
+use Rattle.kl_policy.specs.Json.{listed_in, as_listing, HasListing}
 use Rattle.kl_policy.proofs.JsonFacts.{read_entry, some_is, are_members, digests_fault}
 use Rattle.kl_policy.proofs.json_digests.digests_of.Goals as goal
 

@@ -1,6 +1,5 @@
 -- The texts so far are copied, and none is too long.
-use Rattle.std.proofs.Common.{◌≡◌, Some, All, List, ℕ, take, map, string_bytes}
-use Rattle.serde_json.specs.View.{items_view}
+use Rattle.std.proofs.Common.{All, take, map, string_bytes}
 use Rattle.kl_policy.specs.Json.{IsShort}
 use Rattle.kl_policy.specs.Inner.JsonParts.{AreTexts}
 use Rattle.kl_policy.proofs.json_members.copied.Given as goal

@@ -1,11 +1,10 @@
 -- The patterns are the texts of the member.
-use Rattle.std.proofs.Common.{◌≡◌, ◌≤◌, ◌∙◌, ap, sym, subst, [], ℕ, List, length, map, string_bytes, Some, Option, is_some, codes, rules, option_map, option_and_then, arith}
+use Rattle.std.proofs.Common.{◌≡◌, ◌≤◌, ◌∙◌, ap, sym, subst, [], ℕ, List, length, map, string_bytes, Some, is_some, codes, rules, arith}
 use Rattle.std.proofs.lemmas.Result.{IfOk-weaker, IfErr-weaker}
 use Rattle.std.proofs.lemmas.Slice.Zip.{AllZip-long}
 use Rattle.serde_json.specs.Find.{as_str, get}
-use Rattle.serde_json.specs.View.{view, items_view}
-use Rattle.kl_policy.specs.Json.{texts_in, as_texts, optional, HasPatterns}
-use Rattle.kl_policy.specs.Inner.JsonParts.{AreTexts, IsCopyFault, IsRestFault}
+use Rattle.serde_json.specs.View.{view}
+use Rattle.kl_policy.specs.Json.{as_texts}
 use Rattle.kl_policy.proofs.JsonFacts.{texts_are, copy_fault, read_member, same_texts, both_ok}
 use Rattle.kl_policy.proofs.json_members.patterns_of.Goals as goal
 

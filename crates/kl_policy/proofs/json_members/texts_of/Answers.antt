@@ -1,8 +1,8 @@
 -- The items are texts.
-use Rattle.std.proofs.Common.{◌≡◌, ◌∙◌, ap, sym, subst, Some, Option, option_map, option_and_then, rules}
+use Rattle.std.proofs.Common.{◌≡◌, ◌∙◌, ap, sym, Some, option_and_then, rules}
 use Rattle.serde_json.specs.Find.{as_array}
 use Rattle.serde_json.specs.View.{view, items_view}
-use Rattle.kl_policy.specs.Json.{texts_in, as_texts}
+use Rattle.kl_policy.specs.Json.{texts_in}
 use Rattle.kl_policy.proofs.JsonFacts.{are_texts, some_is}
 use Rattle.kl_policy.proofs.json_members.texts_of.Goals as goal
 

@@ -1,5 +1,5 @@
 -- Each path keeps its digests.
-use Rattle.std.proofs.Common.{rules, ap, ◌∙◌}
+use Rattle.std.proofs.Common.{rules, ◌∙◌}
 use Rattle.std.proofs.lemmas.Map.Made.{map_same_pairs}
 use Rattle.kl_policy.proofs.Tables.{same_table}
 use Rattle.kl_policy.proofs.digests.DigestMap.sort.Goals as goal

@@ -1,9 +1,9 @@
 //! What the words of the command line come to.
 
 ghost use Rattle.std.specs.Prelude.{◌≡◌, ◌≢◌, ◌≤◌, ◌∷◌, [], ℕ, map, codes, string_bytes, IfOk, IfErr};
-ghost use Rattle.kl_history.specs.Records.{History};
+ghost use Rattle.kl_core.specs.Books.{BookFields};
 ghost use Rattle.kl_session.specs.Outside.{outside};
-ghost use Rattle.kl_console.specs.Run.{moment, EndsAs};
+ghost use Rattle.kl_console.specs.Run.{moment, EndsAs, IsStatus};
 ghost use Rattle.keylime.specs.Starting.{Says, IsOtherWords, status_without};
 
 use kl_console::{is_only_word, run_counted};
@@ -30,8 +30,11 @@ A line of a script is a command, or is empty or begins with # and prints nothing
   stop <agent>                      remove <agent>
   begin <agent> [<nonce>]           reply <poll> <bank> <start> <public> <quote> <list>
   state <agent>                     now <milliseconds>
+  register <agent> <ek> <ak> <contact>
+  activate <agent> <tag>            record <agent>
+  records                           forget <agent>
 
-A kind of policy is flat or json. A begin without a nonce draws one. examples/ has scripts, and beside each what it prints; docs/FORMATS.md has the formats.
+A kind of policy is flat or json. A begin without a nonce draws one, and a register a secret. examples/ has scripts, and beside each what it prints; docs/FORMATS.md has the formats.
 
 status
    0  the script was read to its end, and every line was executed and printed
@@ -39,7 +42,7 @@ status
    3  a line spells no command; `fault line <n>` was written last
    4  reading the script failed
    5  writing failed
-   6  a nonce could not be drawn
+   6  a nonce or a secret could not be drawn
    8  a line has over 16,777,216 bytes, or the script over 1,099,511,627,776; `fault line <n>` was written last
   70  memory ran out
 ";
@@ -85,20 +88,20 @@ pub fn start<S: Source, K: Sink, Y: Keys, P: PatternMaker, N: Words, L: Ledger>(
     requires name { blank.name ≡ L.name }
     requires parts { blank.parts ≡ L.parts }
     requires some { 1 ≤ blank.parts }
-    ensures help { IfOk words (λ w. map string_bytes w.items ≡ codes "--help" ∷ []
-        → Says (K.told out.old) (K.told out.new) HELP.now result × (script.new ≡ script.old)) }
-    ensures version { IfOk words (λ w. map string_bytes w.items ≡ codes "--version" ∷ []
-        → Says (K.told out.old) (K.told out.new) VERSION.now result × (script.new ≡ script.old)) }
+    ensures help { IfOk words (λ w. map string_bytes w.items ≡ codes "--help" ∷ [] → Says (K.told out.old) (K.told out.new) HELP.now result) }
+    ensures version { IfOk words (λ w. map string_bytes w.items ≡ codes "--version" ∷ [] → Says (K.told out.old) (K.told out.new) VERSION.now result) }
     ensures run { IfOk words (λ w. map string_bytes w.items ≡ codes "run" ∷ []
-        → ((steps : ℕ) × (H : History) × EndsAs (moment (S.told script.old) (K.told out.old) (outside (Y.told keys.old) (N.told nonces.old) (P.told patterns.old) 0))
-        (moment (S.told script.new) (K.told out.new) (outside (Y.told keys.new) (N.told nonces.new) (P.told patterns.new) steps)) result H) × (result ≢ 2)) }
+        → ((steps : ℕ) × (B : BookFields) × EndsAs (moment (S.told script.old) (K.told out.old) (outside (Y.told keys.old) (N.told nonces.old) (P.told patterns.old) 0))
+        (moment (S.told script.new) (K.told out.new) (outside (Y.told keys.new) (N.told nonces.new) (P.told patterns.new) steps)) result B) × (result ≢ 2)) }
     ensures other { IfOk words (λ w. IsOtherWords (map string_bytes w.items) → result ≡ 2) }
-    // At 2 nothing was read, written, asked or drawn.
-    ensures unread { result ≡ 2 → script.new ≡ script.old }
+    // There are no other numbers.
+    ensures statuses { IsStatus result }
+    // For words other than `run` nothing is read, asked or drawn, and at 2 nothing is written.
+    ensures unread { IfOk words (λ w. map string_bytes w.items ≢ codes "run" ∷ [] → script.new ≡ script.old) }
+    ensures unasked { IfOk words (λ w. map string_bytes w.items ≢ codes "run" ∷ [] → keys.new ≡ keys.old) }
+    ensures unmade { IfOk words (λ w. map string_bytes w.items ≢ codes "run" ∷ [] → patterns.new ≡ patterns.old) }
+    ensures undrawn { IfOk words (λ w. map string_bytes w.items ≢ codes "run" ∷ [] → nonces.new ≡ nonces.old) }
     ensures unwritten { result ≡ 2 → out.new ≡ out.old }
-    ensures unasked { result ≡ 2 → keys.new ≡ keys.old }
-    ensures unmade { result ≡ 2 → patterns.new ≡ patterns.old }
-    ensures undrawn { result ≡ 2 → nonces.new ≡ nonces.old }
     ensures none { IfErr words (λ why. (result ≡ status_without why) × (script.new ≡ script.old) × (out.new ≡ out.old)
         × (keys.new ≡ keys.old) × (patterns.new ≡ patterns.old) × (nonces.new ≡ nonces.old)) }
 {
@@ -132,19 +135,18 @@ fn answer<S: Source, K: Sink, Y: Keys, P: PatternMaker, N: Words, L: Ledger>(
     requires name { blank.name ≡ L.name }
     requires parts { blank.parts ≡ L.parts }
     requires some { 1 ≤ blank.parts }
-    ensures help { map string_bytes words.now ≡ codes "--help" ∷ []
-        → Says (K.told out.old) (K.told out.new) HELP.now result × (script.new ≡ script.old) }
-    ensures version { map string_bytes words.now ≡ codes "--version" ∷ []
-        → Says (K.told out.old) (K.told out.new) VERSION.now result × (script.new ≡ script.old) }
+    ensures help { map string_bytes words.now ≡ codes "--help" ∷ [] → Says (K.told out.old) (K.told out.new) HELP.now result }
+    ensures version { map string_bytes words.now ≡ codes "--version" ∷ [] → Says (K.told out.old) (K.told out.new) VERSION.now result }
     ensures run { map string_bytes words.now ≡ codes "run" ∷ []
-        → ((steps : ℕ) × (H : History) × EndsAs (moment (S.told script.old) (K.told out.old) (outside (Y.told keys.old) (N.told nonces.old) (P.told patterns.old) 0))
-        (moment (S.told script.new) (K.told out.new) (outside (Y.told keys.new) (N.told nonces.new) (P.told patterns.new) steps)) result H) × (result ≢ 2) }
+        → ((steps : ℕ) × (B : BookFields) × EndsAs (moment (S.told script.old) (K.told out.old) (outside (Y.told keys.old) (N.told nonces.old) (P.told patterns.old) 0))
+        (moment (S.told script.new) (K.told out.new) (outside (Y.told keys.new) (N.told nonces.new) (P.told patterns.new) steps)) result B) × (result ≢ 2) }
     ensures other { IsOtherWords (map string_bytes words.now) → result ≡ 2 }
-    ensures unread { result ≡ 2 → script.new ≡ script.old }
+    ensures statuses { IsStatus result }
+    ensures unread { map string_bytes words.now ≢ codes "run" ∷ [] → script.new ≡ script.old }
+    ensures unasked { map string_bytes words.now ≢ codes "run" ∷ [] → keys.new ≡ keys.old }
+    ensures unmade { map string_bytes words.now ≢ codes "run" ∷ [] → patterns.new ≡ patterns.old }
+    ensures undrawn { map string_bytes words.now ≢ codes "run" ∷ [] → nonces.new ≡ nonces.old }
     ensures unwritten { result ≡ 2 → out.new ≡ out.old }
-    ensures unasked { result ≡ 2 → keys.new ≡ keys.old }
-    ensures unmade { result ≡ 2 → patterns.new ≡ patterns.old }
-    ensures undrawn { result ≡ 2 → nonces.new ≡ nonces.old }
 {
     if is_only_word(words, "--help") {
         return say(out, HELP);

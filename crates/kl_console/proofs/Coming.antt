@@ -46,37 +46,27 @@ module _ (offset : ℕ) (bytes : List ℕ) where
   pub nothing_over : bytes ≡ [] → offset ≤ script_limit → ¬ (IsOverLimit offset bytes)
   nothing_over none fits (inl (long, more, parts, much)) =
       omega (arith, much.long, length-append long more, ap (λ (all : List ℕ). length all) (sym parts ∙ none))
-  nothing_over none fits (inr over) = elim over.counted [
-    | inl zero ↦ omega (arith, zero, over.long, length-append over.line over.more, ap (λ (all : List ℕ). length all) (sym over.parts ∙ none), fits)
-    | inr one ↦
-        omega (arith, length-append over.line over.more, ap (λ (all : List ℕ). length all) (sym over.parts ∙ none), ap (λ (all : List ℕ). length all) one.1.1)
-  ]
+  nothing_over none fits (inr (part, byte, more, parts, whole, long)) =
+      omega (arith, length-append part (byte ∷ more), ap (λ (all : List ℕ). length all) (sym parts ∙ none))
 
   -- one line comes
   pub one_comes : (line other : List ℕ) → Comes offset None bytes line → Comes offset None bytes other → line ≡ other
   one_comes line other (inl (more, is)) (inl (others, also)) =
       (same_line line other more others is.is_line.whole also.is_line.whole (sym is.parts ∙ also.parts)).0
-  one_comes line other (inl (more, is)) (inr (also, bare)) = absurd (not_bare bytes line other more is.parts also bare.is_line.whole)
-  one_comes line other (inr (is, bare)) (inl (others, also)) = absurd (not_bare bytes other line others also.parts is bare.is_line.whole)
+  one_comes line other (inl (more, is)) (inr (also, bare)) = absurd (not_bare bytes line other more is.parts also bare.part.is_line.whole)
+  one_comes line other (inr (is, bare)) (inl (others, also)) = absurd (not_bare bytes other line others also.parts is bare.part.is_line.whole)
   one_comes line other (inr (is, bare)) (inr (also, _)) = sym is ∙ also
 
   -- a line that comes passes no limit
   pub comes_within : (line : List ℕ) → Comes offset None bytes line → ¬ (IsOverLimit offset bytes)
   comes_within line (inl (more, is)) (inl (long, others, parts, much)) =
       omega (arith, is.is_line.short, much.long, up_to_newline line more long others (sym is.parts ∙ parts) much.whole)
-  comes_within line (inl (more, is)) (inr over) =
-      let short = up_to_newline line more over.line over.more (sym is.parts ∙ over.parts) over.whole in
-      elim over.counted [
-        | inl zero ↦ omega (arith, zero, over.long, short, is.fits)
-        | inr one ↦ omega (arith, one.0, over.long, short, is.fits)
-      ]
+  comes_within line (inl (more, is)) (inr (part, byte, others, parts, whole, long)) =
+      omega (arith, long, up_to_newline line more part (byte ∷ others) (sym is.parts ∙ parts) whole, is.fits)
   comes_within line (inr (is, bare)) (inl (long, others, parts, much)) =
-      omega (arith, bare.is_line.short, much.long, length-append long others, ap (λ (all : List ℕ). length all) (sym is ∙ parts))
-  comes_within line (inr (is, bare)) (inr over) =
-      elim over.counted [
-        | inl zero ↦ omega (arith, zero, over.long, bare.fits, length-append over.line over.more, ap (λ (all : List ℕ). length all) (sym is ∙ over.parts))
-        | inr one ↦ not_bare bytes over.line line one.1.0 (over.parts ∙ ap (λ (m : List ℕ). over.line ++ m) one.1.1) is bare.is_line.whole
-      ]
+      omega (arith, bare.part.is_line.short, much.long, length-append long others, ap (λ (all : List ℕ). length all) (sym is ∙ parts))
+  comes_within line (inr (is, bare)) (inr (part, byte, others, parts, whole, long)) =
+      omega (arith, long, bare.part.fits, length-append part (byte ∷ others), ap (λ (all : List ℕ). length all) (sym is ∙ parts))
 
 -- ---- however far was read ahead
 
@@ -91,21 +81,14 @@ comes_on offset left bytes line (inl (more, is)) = inl (
 )
 comes_on offset left bytes line (inr (is, bare)) = inr (
   ap (λ (more : List ℕ). bytes ++ more) bare.at_end ∙ append-nil bytes ∙ is,
-  record { some = bare.some; is_line = bare.is_line; fits = bare.fits; at_end = tt },
+  record { some = bare.some; part = bare.part; at_end = tt },
 )
 
 pub over_on : (offset : ℕ) (left bytes : List ℕ) → IsOverLimit offset bytes → IsOverLimit offset (bytes ++ left)
 over_on offset left bytes (inl (long, more, parts, much)) =
     inl (long, more ++ left, ap (λ (all : List ℕ). all ++ left) parts ∙ append_assoc long more left, much)
-over_on offset left bytes (inr over) = inr (record {
-  line = over.line;
-  more = over.more ++ left;
-  parts = ap (λ (all : List ℕ). all ++ left) over.parts ∙ append_assoc over.line over.more left;
-  whole = over.whole;
-  newline = over.newline;
-  counted = elim over.counted [ inl zero ↦ inl zero | inr one ↦ inr (one.0, (one.1.0 ++ left, ap (λ (all : List ℕ). all ++ left) one.1.1)) ];
-  long = over.long;
-})
+over_on offset left bytes (inr (part, byte, more, parts, whole, long)) =
+    inr (part, byte, more ++ left, ap (λ (all : List ℕ). all ++ left) parts ∙ append_assoc part (byte ∷ more) left, whole, long)
 
 -- ---- of two cuts of one script into lines and a rest the one goes on where the other ends
 

@@ -1,20 +1,26 @@
--- A run that lacks nothing but memory ends with 0 or 70.
+-- A run that lacks nothing but memory and words ends with 0, 70 or 6.
 use Rattle.std.proofs.Common.{◌≡◌, ◌≢◌, ◌⊎◌, ℕ, ◌+◌, ◌≤◌, List, [], ◌∷◌, ◌++◌, length, All, Option, None, Some, inl, inr, refl, sym, ap, ◌∙◌, subst}
 use Rattle.std.proofs.Common.{arith, append_assoc, length-append}
 use Rattle.std.proofs.lemmas.List.Elements.{All-head, All-weaker, All-nil, All-cons, All-contains}
-use Rattle.kl_io.specs.Calls.{Calls, Rose}
-use Rattle.kl_script.specs.Commands.{CommandFields, Spells, begin}
-use Rattle.kl_history.specs.Records.{History}
+use Rattle.std.specs.Prelude.{⊤}
+use Rattle.kl_io.specs.Calls.{Calls, Counts, Rose}
+use Rattle.kl_script.specs.Commands.{VerifierCommandFields, begin, CommandFields, nothing, to_verifier, to_registrar, Spells}
+use Rattle.kl_script.specs.declared.command.RegistrarCommand.{RegistrarCommand}
+use Rattle.kl_script.specs.declared.command.RegistrarCommand.TheVariants.{Register}
+use Rattle.kl_registrar.specs.Calls.{Log}
+use Rattle.kl_core.specs.Books.{BookFields}
 use Rattle.kl_session.specs.declared.stop.Stop.TheVariants.{NoNonce}
 use Rattle.kl_session.specs.Outside.{Outside}
-use Rattle.kl_session.specs.Calls.{SessionFields, empty}
-use Rattle.kl_session.specs.Stopped.{HasFewer, DrawsNone, IsStopped}
+use Rattle.kl_session.specs.Calls.{VerifierFields, SessionFields, empty}
+use Rattle.kl_session.specs.Drawing.{HasFewer, DrawsNone}
+use Rattle.kl_session.specs.Stopped.{VerifierStopped, RegistrarStopped, IsStopped}
 use Rattle.kl_session.proofs.Opened.{all_right}
-use Rattle.kl_session.proofs.GoingOn.{consumed, follows_on}
+use Rattle.kl_session.proofs.Moments.{consumed}
+use Rattle.kl_session.proofs.GoingOn.{follows_on}
 use Rattle.kl_console.specs.Calls.{FailsAtLast}
 use Rattle.kl_console.specs.Lines.{IsLine, Comes, IsOverLimit, script_limit, ended}
 use Rattle.kl_console.specs.Script.{Executed, SpellsNone}
-use Rattle.kl_console.specs.Run.{Moment, Ran, IsFaulty, IsDry, IsOver, EndsAs, IsStatus}
+use Rattle.kl_console.specs.Run.{Moment, Ran, IsFaulty, LacksWords, IsOver, EndsAs, IsStatus}
 use Rattle.kl_console.specs.Complete.{IsCommand, AreCommands, IsComplete}
 use Rattle.kl_console.proofs.Coming.{nothing_comes, nothing_over, one_comes, comes_within, comes_on, over_on, first_line, not_bare, either_further}
 
@@ -32,7 +38,7 @@ last_comes offset bytes (b ∷ last) same bare short =
     let some : b ∷ last ≢ [] = λ none. omega (arith, ap (λ (all : List ℕ). length all) none) in
     let is = bare some in
     let fits : offset + length (b ∷ last) ≤ script_limit = omega (arith, short, ap (λ (all : List ℕ). length all) same) in
-    inr (b ∷ last, inr (same, record { some = some; is_line = is.0; fits = fits; at_end = tt }), is)
+    inr (b ∷ last, inr (same, record { some = some; part = record { is_line = is.0; fits = fits }; at_end = tt }), is)
 
 line_comes : (offset : ℕ) (bytes line more : List ℕ) → bytes ≡ line ++ 10 ∷ more → IsCommand line → offset + length bytes ≤ script_limit
     → CommandComes offset bytes
@@ -78,11 +84,36 @@ none_over : (offset : ℕ) (bytes : List ℕ) → offset ≤ script_limit → Co
 none_over offset bytes fits (inl none) over = nothing_over offset bytes none fits over
 none_over offset bytes fits (inr (line, comes, is)) over = comes_within offset bytes line comes over
 
--- ---- no nonce was wanting
+-- ---- too few words could be drawn
 
-draws_none : (o o' : Outside) (s : SessionFields) (c : CommandFields) (s' : SessionFields) → IsStopped NoNonce o o' s c s' → DrawsNone o o'
-draws_none o o' s (begin b) s' h = h.1.1
-draws_none o o' s _ s' h = absurd h.1
+-- a draw that took nothing met a fault, or fewer than 32 bytes are left
+pub record TakesNone (o o' : Outside) : Type 0 where
+  pub cause : Counts o.words.calls o'.words.calls ⊤ ⊎ HasFewer o'.words.left 32
+
+more_than : (left : Option (List ℕ)) (n : ℕ) → n ≤ 32 → HasFewer left n → HasFewer left 32
+more_than None n le few = tt
+more_than (Some left) n le few = omega (arith, le, few)
+
+takes_none : (n : ℕ) (o o' : Outside) → n ≤ 32 → DrawsNone n o o' → TakesNone o o'
+takes_none n o o' le none = record {
+  cause = elim none.cause [
+    | inl met ↦ inl met
+    | inr few ↦ inr (more_than o'.words.left n le (subst (λ (left : Option (List ℕ)). HasFewer left n) (sym none.left) few.0))
+  ];
+}
+
+verifier_takes : (o o' : Outside) (s : VerifierFields) (c : VerifierCommandFields) (s' : VerifierFields) → VerifierStopped NoNonce o o' s c s' → TakesNone o o'
+verifier_takes o o' s (begin b) s' h = takes_none 16 o o' (omega arith) h.1.1
+verifier_takes o o' s _ s' h = absurd h.1
+
+registrar_takes : (o o' : Outside) (calls : Log) (c : RegistrarCommand) (calls' : Log) → RegistrarStopped NoNonce o o' calls c calls' → TakesNone o o'
+registrar_takes o o' calls (Register r) calls' h = takes_none 32 o o' (omega arith) h.1
+registrar_takes o o' calls _ calls' h = absurd h.1
+
+draws_none : (o o' : Outside) (s : SessionFields) (c : CommandFields) (s' : SessionFields) → IsStopped NoNonce o o' s c s' → TakesNone o o'
+draws_none o o' s nothing s' h = absurd h
+draws_none o o' s (to_verifier c) s' h = verifier_takes o o' s.verifier c s'.verifier h.0
+draws_none o o' s (to_registrar c) s' h = registrar_takes o o' s.calls c s'.calls h.0
 
 -- ---- how the run ends
 
@@ -95,49 +126,49 @@ module _ {before after : Moment} (is : IsComplete before after) where
     comes_next : CommandComes (length (ended s.lines)) (rest ++ took.0)
     comes_next = command_comes is.commands s.lines (rest ++ took.0) (took.2 ∙ append_assoc (ended s.lines) rest took.0) s.each
 
-  not_faulty : (H : History) → ¬ (IsFaulty before after H)
-  not_faulty H (s, rest, ran, (line, comes, none), _) =
+  not_faulty : (B : BookFields) → ¬ (IsFaulty before after B)
+  not_faulty B (s, rest, ran, (line, comes, none), _) =
       let took = took s rest _ _ ran in
       let told = subst (λ (left : Option (List ℕ)). Comes (length (ended s.lines)) left rest line) took.1 comes in
       none_faulty (length (ended s.lines)) (rest ++ took.0) line (comes_next s rest _ _ ran) (comes_on (length (ended s.lines)) took.0 rest line told) none
 
-  not_over : (H : History) → ¬ (IsOver before after H)
-  not_over H (s, rest, ran, over, _) =
+  not_over : (B : BookFields) → ¬ (IsOver before after B)
+  not_over B (s, rest, ran, over, _) =
       let left = (took s rest _ _ ran).0 in
       none_over (length (ended s.lines)) (rest ++ left) s.fits (comes_next s rest _ _ ran) (over_on (length (ended s.lines)) left rest over)
 
-  not_dry : (H : History) → ¬ (IsDry before after H)
-  not_dry H (then, s, rest, ran, stops, _) =
+  -- then too few words are left at the end
+  too_few : (B : BookFields) → LacksWords before after B → HasFewer after.outside.words.left 32
+  too_few B (then, s, rest, ran, stops, _) =
       let on = follows_on before.outside then empty s.commands s.texts s.last s.follows in
       let none = draws_none then after.outside s.last stops.command s.last stops.stopped in
       elim none.cause [
-        | inl met ↦ is.drawn (omega (arith, (met.met tt).0, on.drawn))
-        | inr few ↦
-            let fewer = subst (λ (left : Option (List ℕ)). HasFewer left 16) (sym none.left ∙ is.left) few.0 in
-            omega (arith, fewer, is.enough)
+        | inl met ↦ absurd (is.drawn (omega (arith, (met.met tt).0, on.drawn)))
+        | inr few ↦ few
       ]
 
 -- the counts of faults say so of the read and the put that failed
 met_rose : (old new : Calls) (Fault : Type 0) → FailsAtLast old new Fault → Fault → Rose old.faults new.faults
 met_rose old new Fault fails met = omega (arith, (fails.met met).0)
 
-abbrev Completes : Moment → Moment → History → ℕ → Type 0
-Completes before after H status = EndsAs before after status H → status ≢ 2 → (status ≡ 0) ⊎ (status ≡ 70)
+abbrev Completes : Moment → Moment → BookFields → ℕ → Type 0
+Completes before after B status =
+    EndsAs before after status B → status ≢ 2 → (status ≡ 0) ⊎ ((status ≡ 70) ⊎ ((status ≡ 6) × HasFewer after.outside.words.left 32))
 
-module _ {before after : Moment} (H : History) (is : IsComplete before after) where
-  by_status : All (Completes before after H) (0 ∷ 2 ∷ 3 ∷ 4 ∷ 5 ∷ 6 ∷ 8 ∷ 70 ∷ [])
+module _ {before after : Moment} (B : BookFields) (is : IsComplete before after) where
+  by_status : All (Completes before after B) (0 ∷ 2 ∷ 3 ∷ 4 ∷ 5 ∷ 6 ∷ 8 ∷ 70 ∷ [])
   by_status =
-      let P = Completes before after H in
+      let P = Completes before after B in
       All-cons P 0 (2 ∷ 3 ∷ 4 ∷ 5 ∷ 6 ∷ 8 ∷ 70 ∷ []) (λ ends begun. inl refl)
       (All-cons P 2 (3 ∷ 4 ∷ 5 ∷ 6 ∷ 8 ∷ 70 ∷ []) (λ ends begun. absurd (begun refl))
-      (All-cons P 3 (4 ∷ 5 ∷ 6 ∷ 8 ∷ 70 ∷ []) (λ ends begun. absurd (not_faulty is H (ends.fault refl)))
+      (All-cons P 3 (4 ∷ 5 ∷ 6 ∷ 8 ∷ 70 ∷ []) (λ ends begun. absurd (not_faulty is B (ends.fault refl)))
       (All-cons P 4 (5 ∷ 6 ∷ 8 ∷ 70 ∷ []) (λ ends begun. absurd (is.read (met_rose before.script.calls after.script.calls _ ends.read_cause refl)))
       (All-cons P 5 (6 ∷ 8 ∷ 70 ∷ []) (λ ends begun. absurd (is.written (met_rose before.out.calls after.out.calls _ ends.write_cause refl)))
-      (All-cons P 6 (8 ∷ 70 ∷ []) (λ ends begun. absurd (not_dry is H (ends.nonce_fault refl)))
-      (All-cons P 8 (70 ∷ []) (λ ends begun. absurd (not_over is H (ends.over refl)))
-      (All-cons P 70 [] (λ ends begun. inr refl) (All-nil P))))))))
+      (All-cons P 6 (8 ∷ 70 ∷ []) (λ ends begun. inr (inr (refl, too_few is B (ends.nonce_fault refl))))
+      (All-cons P 8 (70 ∷ []) (λ ends begun. absurd (not_over is B (ends.over refl)))
+      (All-cons P 70 [] (λ ends begun. inr (inl refl)) (All-nil P))))))))
 
-pub complete_run : (before after : Moment) (status : ℕ) (H : History) → EndsAs before after status H → IsStatus status → status ≢ 2
-    → IsComplete before after → (status ≡ 0) ⊎ (status ≡ 70)
-complete_run before after status H ends among begun is =
-    All-contains (Completes before after H) (0 ∷ 2 ∷ 3 ∷ 4 ∷ 5 ∷ 6 ∷ 8 ∷ 70 ∷ []) status (by_status H is) among ends begun
+pub complete_run : (before after : Moment) (status : ℕ) (B : BookFields) → EndsAs before after status B → IsStatus status → status ≢ 2
+    → IsComplete before after → (status ≡ 0) ⊎ ((status ≡ 70) ⊎ ((status ≡ 6) × HasFewer after.outside.words.left 32))
+complete_run before after status B ends among begun is =
+    All-contains (Completes before after B) (0 ∷ 2 ∷ 3 ∷ 4 ∷ 5 ∷ 6 ∷ 8 ∷ 70 ∷ []) status (by_status B is) among ends begun

@@ -1,6 +1,6 @@
 -- Lines that were executed, and one more.
-use Rattle.std.proofs.Common.{◌≡◌, ◌≤◌, ◌+◌, ℕ, cond, List, [], ◌∷◌, ◌++◌, length, refl, sym, subst, ap, ◌∙◌, arith, append_assoc, append-nil, length-append}
-use Rattle.std.specs.Prelude.{count_by}
+use Rattle.std.proofs.Common.{◌≡◌, ◌≤◌, ◌+◌, ℕ, List, [], ◌∷◌, ◌++◌, length, refl, sym, subst, ap, ◌∙◌, arith, append_assoc, append-nil, length-append}
+use Rattle.std.specs.Prelude.{sum_by}
 use Rattle.std.specs.List.{concat, AllZip}
 use Rattle.std.proofs.lemmas.List.Elements.{All-nil, All-push}
 use Rattle.std.proofs.lemmas.List.Sums.{sum_by-append}
@@ -10,7 +10,7 @@ use Rattle.kl_session.specs.Outside.{Outside}
 use Rattle.kl_session.specs.Calls.{SessionFields, empty}
 use Rattle.kl_session.specs.Session.{Does, Follows}
 use Rattle.kl_console.specs.Lines.{IsLine, ended, script_limit}
-use Rattle.kl_console.specs.Script.{Executed, offset_of, is_text, puts_of}
+use Rattle.kl_console.specs.Script.{Executed, offset_of, puts_of}
 
 pub Follows-more : (o mid o' : Outside) (s : SessionFields) (commands : List CommandFields) (texts : List (List ℕ)) (last : SessionFields) (c : CommandFields) (text : List ℕ) (next : SessionFields)
     → Follows o mid s commands texts last → Does mid o' last c next text → Follows o o' s (commands ++ c ∷ []) (texts ++ text ∷ []) next
@@ -50,12 +50,12 @@ ended-least (line ∷ lines) = omega (arith, ended-least lines, length-append li
 pub concat-more : (texts : List (List ℕ)) (text : List ℕ) → concat (texts ++ text ∷ []) ≡ concat texts ++ text
 concat-more texts text = concat-append texts (text ∷ []) ∙ ap (λ (t : List ℕ). concat texts ++ t) (append-nil text)
 
-one_text : (text : List ℕ) → count_by is_text (text ∷ []) ≡ puts_of text
+one_text : (text : List ℕ) → sum_by puts_of (text ∷ []) ≡ puts_of text
 one_text [] = refl
 one_text (byte ∷ bytes) = refl
 
-pub count-more : (texts : List (List ℕ)) (text : List ℕ) → count_by is_text (texts ++ text ∷ []) ≡ count_by is_text texts + puts_of text
-count-more texts text = sum_by-append (λ (t : List ℕ). cond (is_text t) 1 0) texts (text ∷ []) ∙ ap (λ (n : ℕ). count_by is_text texts + n) (one_text text)
+pub count-more : (texts : List (List ℕ)) (text : List ℕ) → sum_by puts_of (texts ++ text ∷ []) ≡ sum_by puts_of texts + puts_of text
+count-more texts text = sum_by-append puts_of texts (text ∷ []) ∙ ap (λ (n : ℕ). sum_by puts_of texts + n) (one_text text)
 
 -- ---- one line more
 

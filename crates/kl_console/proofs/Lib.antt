@@ -9,3 +9,4 @@ pub mod Words
 pub mod Coming
 pub mod OneOutput
 pub mod Completing
+pub mod Performing

@@ -15,13 +15,14 @@ use Rattle.kl_session.specs.Closing.{drops}
 use Rattle.kl_session.specs.Session.{Does}
 use Rattle.kl_session.specs.declared.stop.Stop.TheVariants.{NoNonce}
 use Rattle.kl_session.specs.Stopped.{IsStopped}
-use Rattle.kl_session.specs.Unique.{LacksNothing, IsFaultless, GoesOn, Steps, Runs, IsDry as IsDryStep}
+use Rattle.kl_session.specs.Unique.{LacksNothing, IsFaultless, GoesOn, Steps, Runs, IsDry}
 use Rattle.kl_session.proofs.Opened.{all_right}
-use Rattle.kl_session.proofs.GoingOn.{consumed, same_on, does_on, follows_on, dry_on, does_grow, lacked_nothing, lacked_before}
+use Rattle.kl_session.proofs.Moments.{consumed, same_on}
+use Rattle.kl_session.proofs.GoingOn.{does_on, follows_on, dry_on, does_grow, lacked_nothing, lacked_before}
 use Rattle.kl_session.proofs.OneStep.{one_step, not_dry, one_way, begins_by, stands_still, front_faultless, rest_faultless}
-use Rattle.kl_console.specs.Lines.{IsLine, IsUnended, Comes, IsOverLimit, script_limit, ended}
+use Rattle.kl_console.specs.Lines.{IsLine, IsLastLine, Comes, IsOverLimit, script_limit, ended}
 use Rattle.kl_console.specs.Script.{Executed, SpellsNone, fault_line}
-use Rattle.kl_console.specs.Run.{IsHistory, EndsWithNewline, LacksNewline, IsFaulty, IsDry, IsOver}
+use Rattle.kl_console.specs.Run.{IsBook, EndsWithNewline, LacksNewline, IsFaulty, LacksWords, IsOver}
 use Rattle.kl_console.specs.Unique.{Prints}
 use Rattle.kl_console.proofs.Coming.{nothing_comes, nothing_over, one_comes, comes_within, comes_on, over_on, first_line, GoesFurther, either_further}
 
@@ -33,7 +34,7 @@ data LineEnds (relations : Relations) (left : List ℕ) (last : SessionFields) (
   answered : (c : CommandFields) (next : SessionFields) (rest : List ℕ) → status ≡ 0 → Spells line c → Steps relations left last c next text rest
       → LineEnds relations left last number line status text
   unspelled : status ≡ 3 → SpellsNone line → text ≡ fault_line number → LineEnds relations left last number line status text
-  dry : (c : CommandFields) (next : SessionFields) (rest : List ℕ) → status ≡ 6 → Spells line c → IsDryStep relations left last c next rest → text ≡ []
+  dry : (c : CommandFields) (next : SessionFields) (rest : List ℕ) → status ≡ 6 → Spells line c → IsDry relations left last c next rest → text ≡ []
       → LineEnds relations left last number line status text
 
 -- What is left of a script behind its executed lines, which are so many and of so many bytes: nothing, a line, which is all that is
@@ -65,10 +66,10 @@ record Whole (script : List ℕ) (relations : Relations) (words : List ℕ) (sta
 
 module _ (relations : Relations) (left : List ℕ) (last : SessionFields) (number : ℕ) where
   answered_not_dry : (line : List ℕ) (c d : CommandFields) (next after : SessionFields) (text rest more : List ℕ) → Spells line c → Spells line d
-      → Steps relations left last c next text rest → ¬ (IsDryStep relations left last d after more)
+      → Steps relations left last c next text rest → ¬ (IsDry relations left last d after more)
   answered_not_dry line c d next after text rest more is also steps short =
       not_dry relations left last c next after text rest more steps
-      (subst (λ (x : CommandFields). IsDryStep relations left last x after more) (Spells-same line d c also is) short)
+      (subst (λ (x : CommandFields). IsDry relations left last x after more) (Spells-same line d c also is) short)
 
   one_line_end : (line : List ℕ) (n m : ℕ) (t u : List ℕ) → LineEnds relations left last number line n t → LineEnds relations left last number line m u
       → (n ≡ m) × (t ≡ u)
@@ -217,10 +218,10 @@ wrote_so held written puts (Some xs) (Some ys) is also h =
 
 module _ {script : List ℕ} {relations : Relations} {words : List ℕ} {status : ℕ} {written : List ℕ} (p : Prints script relations words status written) where
   -- the session of a run lacked nothing, since its history is the front of the one at the end
-  lacked : (s : SessionFields) → IsHistory s p.history → LacksNothing s.history
+  lacked : (s : SessionFields) → IsBook s p.book → LacksNothing s.verifier.history
   lacked s is =
-      let whole : LacksNothing p.history = record { legal = is.legal; ample = p.ample } in
-      lacked_nothing s.history (drops is.ended.0) (subst LacksNothing is.ended.2 whole)
+      let whole : LacksNothing p.book.history = record { legal = is.legal; ample = p.ample } in
+      lacked_nothing s.verifier.history (drops is.ended.0) (subst LacksNothing is.ended.2 whole)
 
   module _ {then : Outside} (s : Executed p.before.outside then) (on : GoesOn then p.after.outside) where
     going : GoesOn p.before.outside then
@@ -230,7 +231,7 @@ module _ {script : List ℕ} {relations : Relations} {words : List ℕ} {status 
     left_then : (left : List ℕ) × (then.words.left ≡ Some left)
     left_then = going.left words p.faultless.left
 
-    whole_by : (bytes text : List ℕ) → LacksNothing s.last.history → script ≡ ended s.lines ++ bytes → written ≡ concat s.texts ++ text
+    whole_by : (bytes text : List ℕ) → LacksNothing s.last.verifier.history → script ≡ ended s.lines ++ bytes → written ≡ concat s.texts ++ text
         → RestEnds relations left_then.0 s.last (length s.lines + 1) (length (ended s.lines)) bytes status text → Whole script relations words status written
     whole_by bytes text unwanting cut wrote ends = record {
       lines = s.lines;
@@ -264,13 +265,13 @@ module _ {script : List ℕ} {relations : Relations} {words : List ℕ} {status 
     left_last : (rest : List ℕ) × (p.after.outside.words.left ≡ Some rest)
     left_last = on.left left_then.0 left_then.1
 
-    answers_next : (c : CommandFields) (next : SessionFields) (text : List ℕ) → Does then p.after.outside s.last c next text → LacksNothing next.history
+    answers_next : (c : CommandFields) (next : SessionFields) (text : List ℕ) → Does then p.after.outside s.last c next text → LacksNothing next.verifier.history
         → Steps relations left_then.0 s.last c next text left_last.0
     answers_next c next text does unwanting =
         record { before = then; after = p.after.outside; faultless = thereon; does = does; unwanting = unwanting; left = left_last.1 }
 
     stops_next : (c : CommandFields) (next : SessionFields) → IsStopped NoNonce then p.after.outside s.last c next
-        → IsDryStep relations left_then.0 s.last c next left_last.0
+        → IsDry relations left_then.0 s.last c next left_last.0
     stops_next c next stopped = record { before = then; after = p.after.outside; faultless = thereon; stopped = stopped; left = left_last.1 }
 
   -- what was taken from the script, and what is left of it
@@ -281,26 +282,26 @@ module _ {script : List ℕ} {relations : Relations} {words : List ℕ} {status 
   puts : (text : List ℕ) → Appends p.before.out.held p.after.out.held text → written ≡ text
   puts text wrote = wrote_so p.held written text p.before.out.held p.after.out.held p.held_before p.held_after wrote
 
-  with_newline : status ≡ 0 → IsAtEnd p.after.script.left → EndsWithNewline p.before p.after p.history → Whole script relations words status written
+  with_newline : status ≡ 0 → IsAtEnd p.after.script.left → EndsWithNewline p.before p.after p.book → Whole script relations words status written
   with_newline zero end (s, ran, is) =
       let took = took (ended s.lines) ran.read in
       let none = subst IsAtEnd took.1 end in
       whole_by s (same_on p.after.outside p.after.outside refl) took.0 [] (lacked s.last is) took.2
       (puts (concat s.texts) ran.wrote ∙ sym (append-nil (concat s.texts))) (nothing_left zero none refl)
 
-  without_newline : status ≡ 0 → LacksNewline p.before p.after p.history → Whole script relations words status written
+  without_newline : status ≡ 0 → LacksNewline p.before p.after p.book → Whole script relations words status written
   without_newline zero (then, s, next, text, d, ran, is) =
       let on = does_on then p.after.outside s.last d.command next text d.does in
       let unwanting = lacked next is in
       let took = took (ended s.lines ++ d.line) ran.read in
-      let bare = subst (λ (left : Option (List ℕ)). IsUnended (length (ended s.lines)) left d.line) took.1 d.next_line in
+      let bare = subst (λ (left : Option (List ℕ)). IsLastLine (length (ended s.lines)) left d.line) took.1 d.next_line in
       let comes = comes_on (length (ended s.lines)) took.0 d.line d.line (inr (refl, bare)) in
       let all = ap (λ (more : List ℕ). d.line ++ more) bare.at_end ∙ append-nil d.line in
       whole_by s on (d.line ++ took.0) text (lacked_before s.last next (does_grow then p.after.outside s.last d.command next text d.does) unwanting)
       (took.2 ∙ append_assoc (ended s.lines) d.line took.0) (puts (concat s.texts ++ text) ran.wrote)
       (line_left d.line comes (λ _. all) (answered d.command next (left_last s on).0 zero d.spelled (answers_next s on d.command next text d.does unwanting)))
 
-  faulty : status ≡ 3 → IsFaulty p.before p.after p.history → Whole script relations words status written
+  faulty : status ≡ 3 → IsFaulty p.before p.after p.book → Whole script relations words status written
   faulty three (s, rest, ran, (line, comes, none), is) =
       let took = took (ended s.lines ++ rest) ran.read in
       let on = same_on p.after.outside p.after.outside refl in
@@ -309,14 +310,14 @@ module _ {script : List ℕ} {relations : Relations} {words : List ℕ} {status 
       (puts (concat s.texts ++ fault_line (length s.lines + 1)) ran.wrote)
       (line_left line (comes_on (length (ended s.lines)) took.0 rest line told) (λ zero. absurd (omega (arith, three, zero))) (unspelled three none refl))
 
-  over_limit : status ≡ 8 → IsOver p.before p.after p.history → Whole script relations words status written
+  over_limit : status ≡ 8 → IsOver p.before p.after p.book → Whole script relations words status written
   over_limit eight (s, rest, ran, much, is) =
       let took = took (ended s.lines ++ rest) ran.read in
       let on = same_on p.after.outside p.after.outside refl in
       whole_by s on (rest ++ took.0) (fault_line (length s.lines + 1)) (lacked s.last is) (took.2 ∙ append_assoc (ended s.lines) rest took.0)
       (puts (concat s.texts ++ fault_line (length s.lines + 1)) ran.wrote) (over eight (over_on (length (ended s.lines)) took.0 rest much) refl)
 
-  dried : status ≡ 6 → IsDry p.before p.after p.history → Whole script relations words status written
+  dried : status ≡ 6 → LacksWords p.before p.after p.book → Whole script relations words status written
   dried six (then, s, rest, ran, stops, is) =
       let on = dry_on then p.after.outside s.last stops.command s.last stops.stopped in
       let took = took (ended s.lines ++ rest) ran.read in

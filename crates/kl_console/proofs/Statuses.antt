@@ -1,8 +1,8 @@
 -- How a run ends, by the number with which it ends.
-use Rattle.std.proofs.Common.{◌≡◌, [], refl, subst, ap, arith}
-use Rattle.kl_history.specs.Records.{History}
+use Rattle.std.proofs.Common.{◌≡◌, None, refl, subst, ap, arith}
+use Rattle.kl_core.specs.Books.{BookFields}
 use Rattle.kl_console.specs.Calls.{FailsAtLast}
-use Rattle.kl_console.specs.Run.{Moment, EndsAs, IsStatus}
+use Rattle.kl_console.specs.Run.{Moment, EndsAs, IsStatus, book_or_empty}
 use Rattle.kl_console.specs.Inner.Turns.{EndsBy, status_of}
 use Rattle.kl_console.specs.declared.ending.End.{End}
 use Rattle.kl_console.specs.declared.ending.End.TheVariants.{Done, Fault, ReadFault, WriteFault, NoNonce, Over, Memory}
@@ -61,11 +61,11 @@ one_end Memory Over is = absurd (omega (arith, is))
 one_end Memory Memory is = refl
 
 -- what is so of a run that ended with its number
-pub ends_as : (a b : Moment) (H : History) (end : End) → EndsBy a b H end → FailsAtLast a.script.calls b.script.calls (end ≡ ReadFault) → FailsAtLast a.out.calls b.out.calls (end ≡ WriteFault)
-    → EndsAs a b (status_of end) H
+pub ends_as : (a b : Moment) (B : BookFields) (end : End) → EndsBy a b B end → FailsAtLast a.script.calls b.script.calls (end ≡ ReadFault) → FailsAtLast a.out.calls b.out.calls (end ≡ WriteFault)
+    → EndsAs a b (status_of end) B
 unfolding EndsBy
-ends_as a b H end ends read write =
-    let by : (other : End) → status_of end ≡ status_of other → EndsBy a b H other = λ other is. subst (EndsBy a b H) (one_end end other is) ends in
+ends_as a b B end ends read write =
+    let by : (other : End) → status_of end ≡ status_of other → EndsBy a b B other = λ other is. subst (EndsBy a b B) (one_end end other is) ends in
     record {
       done = by Done;
       fault = by Fault;
@@ -79,7 +79,7 @@ ends_as a b H end ends read write =
     }
 
 -- a run that did not begin, as its words are others
-pub ends_unused : (a : Moment) → EndsAs a a 2 []
+pub ends_unused : (a : Moment) → EndsAs a a 2 (book_or_empty None)
 ends_unused a = record {
   done = λ is. absurd (omega (arith, is));
   fault = λ is. absurd (omega (arith, is));

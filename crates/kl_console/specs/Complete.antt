@@ -19,9 +19,8 @@ pub record AreCommands (bytes : List ℕ) : Type 0 where
   pub bare : last ≢ [] → IsCommand last
   pub short : length bytes ≤ script_limit
 
--- Between two moments of a run nothing was wrong with the script, no object met a fault, and a nonce could be drawn still at the
--- end: the source told a script of commands, all that it had left; no count of faults rose of the source, of the output or of the
--- words; and the words told at the end that 16 bytes of them or more were left.
+-- Between two moments of a run nothing was wrong with the script, and no object met a fault: the source told a script of commands,
+-- all that it had left; and no count of faults rose of the source, of the output or of the words.
 pub record IsComplete (before after : Moment) : Type 0 where
   pub script : List ℕ
   pub whole : before.script.left ≡ Some script
@@ -29,6 +28,3 @@ pub record IsComplete (before after : Moment) : Type 0 where
   pub read : ¬ (Rose before.script.calls.faults after.script.calls.faults)
   pub written : ¬ (Rose before.out.calls.faults after.out.calls.faults)
   pub drawn : ¬ (Rose before.outside.words.calls.faults after.outside.words.calls.faults)
-  pub words : List ℕ
-  pub left : after.outside.words.left ≡ Some words
-  pub enough : 16 ≤ length words

@@ -27,36 +27,34 @@ ended [] = []
 ended (line ∷ lines) = line ++ 10 ∷ ended lines
 
 -- Behind so many bytes of a script, these begin with a line and its newline, and then come more.
-pub record IsEnded (offset : ℕ) (bytes line more : List ℕ) : Type 0 where
+pub record IsEndedLine (offset : ℕ) (bytes line more : List ℕ) : Type 0 where
   pub parts : bytes ≡ line ++ 10 ∷ more
   pub is_line : IsLine line
   pub fits : offset + length line + 1 ≤ script_limit
 
+-- Behind so many bytes of a script, these are of one line, and pass no limit.
+pub record IsPart (offset : ℕ) (part : List ℕ) : Type 0 where
+  pub is_line : IsLine part
+  pub fits : offset + length part ≤ script_limit
+
 -- Behind so many bytes of a script, this is its last line, which lacks its newline.
-pub record IsUnended (offset : ℕ) (left : Option (List ℕ)) (line : List ℕ) : Type 0 where
+pub record IsLastLine (offset : ℕ) (left : Option (List ℕ)) (line : List ℕ) : Type 0 where
   pub some : line ≢ []
-  pub is_line : IsLine line
-  pub fits : offset + length line ≤ script_limit
+  pub part : IsPart offset line
   pub at_end : IsAtEnd left
 
 -- Behind so many bytes of a script this line comes, with which these bytes begin; behind them this is left of the script.
 abbrev pub Comes : ℕ → Option (List ℕ) → List ℕ → List ℕ → Type 0
-Comes offset left bytes line = ((more : List ℕ) × IsEnded offset bytes line more) ⊎ ((bytes ≡ line) × IsUnended offset left line)
+Comes offset left bytes line = ((more : List ℕ) × IsEndedLine offset bytes line more) ⊎ ((bytes ≡ line) × IsLastLine offset left line)
 
 -- the bytes begin with more of a line than a line may have
 abbrev pub PassesLine : List ℕ → Type 0
 PassesLine bytes = (long : List ℕ) × (more : List ℕ) × (bytes ≡ long ++ more) × IsTooLong long
 
--- behind so many bytes of a script, these begin with a line, or a part of one, in which the script passes its limit
-pub record PassesScript (offset : ℕ) (bytes : List ℕ) : Type 0 where
-  pub line : List ℕ
-  pub more : List ℕ
-  pub parts : bytes ≡ line ++ more
-  pub whole : HasNo 10 line
-  -- the newline is counted where it stands there
-  pub newline : ℕ
-  pub counted : (newline ≡ 0) ⊎ ((newline ≡ 1) × ((rest : List ℕ) × (more ≡ 10 ∷ rest)))
-  pub long : script_limit < offset + length line + newline
+-- Behind so many bytes of a script, these begin with a part of a line behind which a byte more, be it its newline, is one too many.
+abbrev pub PassesScript : ℕ → List ℕ → Type 0
+PassesScript offset bytes =
+    (part : List ℕ) × (byte : ℕ) × (more : List ℕ) × (bytes ≡ part ++ byte ∷ more) × HasNo 10 part × (script_limit ≤ offset + length part)
 
 -- the next line passes the limit of a line, or the script passes its own in it
 abbrev pub IsOverLimit : ℕ → List ℕ → Type 0

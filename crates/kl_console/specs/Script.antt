@@ -1,5 +1,5 @@
 -- A script as far as it was executed: its lines, the commands that they spell, and what these printed.
-use Rattle.std.specs.Prelude.{ℕ, ◌+◌, ◌≤◌, Bool, true, false, List, [], ◌∷◌, ◌++◌, length, All, count_by, Option, codes, decimal}
+use Rattle.std.specs.Prelude.{ℕ, ◌+◌, ◌≤◌, List, [], ◌∷◌, ◌++◌, length, All, sum_by, Option, codes, decimal}
 use Rattle.std.specs.List.{concat, AllZip}
 use Rattle.kl_script.specs.Commands.{CommandFields, Spells}
 use Rattle.kl_session.specs.Outside.{Outside}
@@ -32,10 +32,6 @@ offset_of s = length (ended s.lines)
 abbrev pub printed : {o o' : Outside} → Executed o o' → List ℕ
 printed s = concat s.texts
 
-abbrev pub is_text : List ℕ → Bool
-is_text [] = false
-is_text (byte ∷ bytes) = true
-
 -- how many puts a text takes: an empty one, as that of a comment, takes none
 abbrev pub puts_of : List ℕ → ℕ
 puts_of [] = 0
@@ -43,7 +39,7 @@ puts_of (byte ∷ bytes) = 1
 
 -- how many puts there were
 abbrev pub puts_before : {o o' : Outside} → Executed o o' → ℕ
-puts_before s = count_by is_text s.texts
+puts_before s = sum_by puts_of s.texts
 
 -- the number of the next line, from 1
 abbrev pub next_number : {o o' : Outside} → Executed o o' → ℕ

@@ -3,6 +3,7 @@
 ghost use Rattle.std.specs.Prelude.{◌≡◌, ◌≢◌, ◌≤◌, Err, length};
 ghost use Rattle.kl_script.specs.Commands.{fields};
 ghost use Rattle.kl_session.specs.Outside.{outside};
+ghost use Rattle.kl_session.specs.Calls.{SessionFields, Stands};
 ghost use Rattle.kl_console.specs.Calls.{FailsAtLast};
 ghost use Rattle.kl_console.specs.Lines.{line_limit};
 ghost use Rattle.kl_console.specs.Inner.Turns.{Answers, Performs};
@@ -38,8 +39,9 @@ pub fn answer<K: Sink, Y: Keys, P: PatternMaker, N: Words, L: Ledger>(
     steps: &mut Steps<L>,
 ) -> Result<(), End>
     requires { length reader.old.line ≤ line_limit }
-    ensures answers { Answers number reader.old.line (outside (Y.told keys.old) (N.told nonces.old) (P.told patterns.old) steps.old)
-        (outside (Y.told keys.new) (N.told nonces.new) (P.told patterns.new) steps.new) session.old session.new (K.told out.old) (K.told out.new) result }
+    ensures answers { (s : SessionFields) → Stands session.old s → (s' : SessionFields) × Stands session.new s'
+        × Answers number reader.old.line (outside (Y.told keys.old) (N.told nonces.old) (P.told patterns.old) steps.old)
+        (outside (Y.told keys.new) (N.told nonces.new) (P.told patterns.new) steps.new) s s' (K.told out.old) (K.told out.new) result }
     ensures ahead { reader.new.ahead ≡ reader.old.ahead }
     ensures passed { reader.new.passed ≡ reader.old.passed }
     ensures write { FailsAtLast (K.told out.old).calls (K.told out.new).calls (result ≡ Err End.WriteFault) }
@@ -73,8 +75,9 @@ fn perform<K: Sink, Y: Keys, P: PatternMaker, N: Words, L: Ledger>(
     nonces: &mut N,
     steps: &mut Steps<L>,
 ) -> Result<(), End>
-    ensures performs { Performs (outside (Y.told keys.old) (N.told nonces.old) (P.told patterns.old) steps.old) (outside (Y.told keys.new) (N.told nonces.new) (P.told patterns.new) steps.new)
-        session.old session.new (fields command) (K.told out.old) (K.told out.new) result }
+    ensures performs { (s : SessionFields) → Stands session.old s → (s' : SessionFields) × Stands session.new s'
+        × Performs (outside (Y.told keys.old) (N.told nonces.old) (P.told patterns.old) steps.old) (outside (Y.told keys.new) (N.told nonces.new) (P.told patterns.new) steps.new)
+        s s' (fields command) (K.told out.old) (K.told out.new) result }
     ensures write { FailsAtLast (K.told out.old).calls (K.told out.new).calls (result ≡ Err End.WriteFault) }
     ensures read { result ≢ Err End.ReadFault }
     ensures place { (K.told out.new).place ≡ (K.told out.old).place }

@@ -17,7 +17,7 @@ pub enum End {
     ReadFault,
     /// The output met a fault.
     WriteFault,
-    /// A nonce was to be drawn, and could not be.
+    /// A nonce or a secret was to be drawn, and could not be.
     NoNonce,
     /// A line is too long, or the script is, which was written.
     Over,

@@ -141,7 +141,7 @@ impl LineReader {
     /// # Errors
     /// `Failed` where the source met a fault in this call, `Memory` where there is none for the line.
     pub fn next<S: Source>(&mut self, source: &mut S) -> Result<Found, ReadError>
-        ensures reads { ReadsLine (S.told source.old).left (S.told source.new).left self.old self.new result }
+        ensures reads { ReadsLine (S.told source.old) (S.told source.new) self.old self.new result }
         ensures failed { FailsAtLast (S.told source.old).calls (S.told source.new).calls (result ≡ Err ReadError.Failed) }
         ensures place { (S.told source.new).place ≡ (S.told source.old).place }
     {
@@ -156,6 +156,10 @@ impl LineReader {
     fn prime<S: Source>(&mut self, source: &mut S) -> Result<bool, ReadError>
         ensures bytes { (consumed : List ℕ) × Consumes (S.told source.old).left (S.told source.new).left consumed
             × (self.new.ahead ≡ self.old.ahead ++ consumed) }
+        ensures once { (S.told source.new).calls.made ≤ (S.told source.old).calls.made + 1 }
+        // Where there are bytes, one at least is new of each read.
+        ensures reads { IfOk result (λ some. some ≡ true → (S.told source.new).calls.made + length self.old.ahead
+            ≤ (S.told source.old).calls.made + length self.new.ahead) }
         ensures line { self.new.line ≡ self.old.line }
         ensures passed { self.new.passed ≡ self.old.passed }
         ensures some { IfOk result (λ some. some ≡ true → 0 < length self.new.ahead) }
@@ -174,7 +178,8 @@ impl LineReader {
     fn gather<S: Source>(&mut self, source: &mut S) -> Result<Found, ReadError>
         requires ahead { 0 < length self.old.ahead }
         requires line { self.old.line ≡ [] }
-        ensures reads { ReadsLine (S.told source.old).left (S.told source.new).left self.old self.new result }
+        requires passed { self.old.passed ≤ script_limit }
+        ensures reads { ReadsLine (S.told source.old) (S.told source.new) self.old self.new result }
         ensures failed { FailsAtLast (S.told source.old).calls (S.told source.new).calls (result ≡ Err ReadError.Failed) }
         ensures place { (S.told source.new).place ≡ (S.told source.old).place }
     {
@@ -238,6 +243,7 @@ impl LineReader {
     fn fill<S: Source>(&mut self, source: &mut S) -> Result<bool, ReadError>
         requires { self.old.ahead ≡ [] }
         ensures bytes { Consumes (S.told source.old).left (S.told source.new).left self.new.ahead }
+        ensures once { (S.told source.new).calls.made ≤ (S.told source.old).calls.made + 1 }
         ensures line { self.new.line ≡ self.old.line }
         ensures passed { self.new.passed ≡ self.old.passed }
         ensures some { IfOk result (λ some. some ≡ true → 0 < length self.new.ahead) }

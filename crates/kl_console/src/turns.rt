@@ -1,10 +1,10 @@
 //! One turn of a run, and all of them.
 
 ghost use Rattle.std.specs.Prelude.{◌≡◌, ◌<◌, Err, None, OnOk};
-ghost use Rattle.kl_session.specs.Calls.{empty};
+ghost use Rattle.kl_session.specs.Calls.{SessionFields, Stands, empty};
 ghost use Rattle.kl_session.specs.Outside.{outside};
 ghost use Rattle.kl_console.specs.Calls.{FailsAtLast};
-ghost use Rattle.kl_console.specs.Run.{Moment, moment, history_of};
+ghost use Rattle.kl_console.specs.Run.{Moment, moment, book_or_empty};
 ghost use Rattle.kl_console.specs.Inner.Turns.{Ends, EndsBy, Played, PlaysOn};
 
 use crate::answering::answer;
@@ -36,11 +36,12 @@ fn turn<S: Source, K: Sink, Y: Keys, P: PatternMaker, N: Words, L: Ledger>(
     nonces: &mut N,
     steps: &mut Steps<L>,
 ) -> Result<(), End>
-    ensures plays { (before : Moment)
+    ensures plays { (before : Moment) (s : SessionFields) → Stands session.old s
         → Played before (moment (S.told script.old) (K.told out.old) (outside (Y.told keys.old) (N.told nonces.old) (P.told patterns.old) steps.old))
-        reader.old session.old number
-        → PlaysOn before (moment (S.told script.new) (K.told out.new) (outside (Y.told keys.new) (N.told nonces.new) (P.told patterns.new) steps.new))
-        reader.new session.new number result }
+        reader.old s number
+        → (s' : SessionFields) × Stands session.new s'
+        × PlaysOn before (moment (S.told script.new) (K.told out.new) (outside (Y.told keys.new) (N.told nonces.new) (P.told patterns.new) steps.new))
+        reader.new s' number result }
     ensures read { FailsAtLast (S.told script.old).calls (S.told script.new).calls (result ≡ Err End.ReadFault) }
     ensures write { FailsAtLast (K.told out.old).calls (K.told out.new).calls (result ≡ Err End.WriteFault) }
     ensures later { OnOk result (reader.old.passed < reader.new.passed) }
@@ -78,9 +79,9 @@ fn turns<S: Source, K: Sink, Y: Keys, P: PatternMaker, N: Words, L: Ledger>(
     nonces: &mut N,
     steps: &mut Steps<L>,
 ) -> End
-    requires { session.old ≡ empty }
-    ensures ends { Ends (moment (S.told script.old) (K.told out.old) (outside (Y.told keys.old) (N.told nonces.old) (P.told patterns.old) steps.old))
-        (moment (S.told script.new) (K.told out.new) (outside (Y.told keys.new) (N.told nonces.new) (P.told patterns.new) steps.new)) session.new result }
+    requires { Stands session.old empty }
+    ensures ends { (s : SessionFields) × Stands session.new s × Ends (moment (S.told script.old) (K.told out.old) (outside (Y.told keys.old) (N.told nonces.old) (P.told patterns.old) steps.old))
+        (moment (S.told script.new) (K.told out.new) (outside (Y.told keys.new) (N.told nonces.new) (P.told patterns.new) steps.new)) s result }
     ensures read { FailsAtLast (S.told script.old).calls (S.told script.new).calls (result ≡ End.ReadFault) }
     ensures write { FailsAtLast (K.told out.old).calls (K.told out.new).calls (result ≡ End.WriteFault) }
     ensures places { ((S.told script.new).place ≡ (S.told script.old).place)
@@ -121,8 +122,11 @@ pub fn play<S: Source, K: Sink, Y: Keys, P: PatternMaker, N: Words, L: Ledger>(
     steps: &mut Steps<L>,
 ) -> (End, Option<Book>)
     ensures ends { EndsBy (moment (S.told script.old) (K.told out.old) (outside (Y.told keys.old) (N.told nonces.old) (P.told patterns.old) steps.old))
-        (moment (S.told script.new) (K.told out.new) (outside (Y.told keys.new) (N.told nonces.new) (P.told patterns.new) steps.new)) (history_of result.1) result.0 }
+        (moment (S.told script.new) (K.told out.new) (outside (Y.told keys.new) (N.told nonces.new) (P.told patterns.new) steps.new)) (book_or_empty result.1) result.0 }
     ensures none { result.1 ≡ None → result.0 ≡ End.Memory }
+    ensures unread { result.1 ≡ None → script.new ≡ script.old }
+    ensures unwritten { result.1 ≡ None → out.new ≡ out.old }
+    ensures unasked { result.1 ≡ None → (keys.new ≡ keys.old) × (patterns.new ≡ patterns.old) × (nonces.new ≡ nonces.old) × (steps.new ≡ steps.old) }
     ensures read { FailsAtLast (S.told script.old).calls (S.told script.new).calls (result.0 ≡ End.ReadFault) }
     ensures write { FailsAtLast (K.told out.old).calls (K.told out.new).calls (result.0 ≡ End.WriteFault) }
     ensures places { ((S.told script.new).place ≡ (S.told script.old).place)

@@ -12,8 +12,6 @@ use Rattle.std.proofs.lemmas.Option.{same_Some}
 use lib.Dec.{eqb}
 use Rattle.kl_entry.specs.Entries.{EntryFields}
 use Rattle.kl_quote.specs.declared.evidence.Evidence.{Evidence}
-use Rattle.kl_quote.specs.Size.{total_bytes}
-use Rattle.kl_states.specs.declared.outcome.DropWhy.{DropWhy}
 use Rattle.kl_states.specs.declared.verdict.Verdict.TheVariants.{Pass, Failed, Invalid}
 use Rattle.kl_appraise.specs.declared.judged.Boot.{Boot}
 use Rattle.kl_appraise.specs.Terms.{TermsFields}
@@ -26,7 +24,7 @@ use Rattle.kl_appraise.specs.declared.kept.Kept.{Kept}
 use Rattle.kl_appraise.specs.declared.judged.Outcome.{Outcome as Finding}
 use Rattle.kl_appraise.specs.declared.judged.Outcome.TheVariants as finding
 use Rattle.kl_history.specs.declared.record.Record.{Record}
-use Rattle.kl_history.specs.declared.record.Record.TheVariants.{Verdict, Dropped}
+use Rattle.kl_history.specs.declared.record.Record.TheVariants.{Verdict}
 use Rattle.kl_history.specs.Records.{History, Past, Start, begins, closes, is_open, is_poll_of, belongs, own, is_close, is_release}
 use Rattle.kl_history.specs.LookBacks.{installed}
 use Rattle.kl_history.specs.Accepted.{no_boot, HasAccepted, WasAccepted}
@@ -38,10 +36,13 @@ use Rattle.kl_core.specs.Tickets.{IsGiven}
 use Rattle.kl_core.specs.States.{Accepted}
 use Rattle.kl_core.specs.Closes.{record_by}
 use Rattle.kl_core.specs.Inner.Keeping.{Says, IsEntry, HasEntry, IsOpening, HasOpening, IsBook}
-use Rattle.kl_core.specs.Inner.Steps.{found, NotedIf}
+use Rattle.kl_core.specs.declared.closing.Close.{Close}
+use Rattle.kl_core.specs.declared.closing.Close.TheVariants.{Found, Lost, Dropped}
+use Rattle.kl_core.specs.Inner.Steps.{latest_poll, found, NotedIf}
+use Rattle.kl_core.specs.Inner.Closing.{close_record, close_weight, after_close, IsCloseOf}
 use Rattle.kl_core.proofs.Texts.{eq_yes}
-use Rattle.kl_core.proofs.OneMore.{Calm, Quiet, quiet_verdict, quiet_restart, quiet_dropped}
-use Rattle.kl_core.proofs.Ours.{own_ours, says_dropped, says_passed, says_failed, says_invalid, says_restarted, says_stale_verdict, says_stale_restart}
+use Rattle.kl_core.proofs.OneMore.{Calm, Quiet, quiet_verdict, quiet_restart, quiet_lost, quiet_dropped}
+use Rattle.kl_core.proofs.Ours.{own_ours, says_dropped, says_passed, says_failed, says_invalid, says_restarted, says_stale_verdict, says_stale_restart, says_lost, says_stale_loss}
 use Rattle.kl_core.proofs.Keeping.{agents_at, BeginsNone, entry_step, has_theirs}
 use Rattle.kl_core.proofs.Findings.{restart_signed, same_outcome, same_whole, passes_from_first}
 use Rattle.kl_core.proofs.Standing.{kept_installed}
@@ -162,127 +163,143 @@ has_same H past r a o calm none same_installed same_says has = by_belonging (bel
 poll_is_of : (past : Past) (t : TicketFields) (a : List ℕ) → IsGiven past t → is_poll_of past a t.poll ≡ bytes_eq a t.agent
 poll_is_of past t a given = ap (λ o. option_map_or (λ (s : Start). bytes_eq a s.agent) o false) given.began
 
-found_belongs : (past : Past) (t : TicketFields) (e : Evidence) (s : Bool) (f : Finding) (now : Bool) (a : List ℕ) → IsGiven past t → belongs past a (record_by t.poll e s f now) ≡ bytes_eq a t.agent
-found_belongs past t e s (finding.Verdict v) now a given = poll_is_of past t a given
-found_belongs past t e s finding.Restart now a given = poll_is_of past t a given
+close_belongs : (past : Past) (t : TicketFields) (by : Close) (now : Bool) (a : List ℕ) → IsGiven past t → belongs past a (close_record t.poll by now) ≡ bytes_eq a t.agent
+close_belongs past t (Found e s (finding.Verdict v) n) now a given = poll_is_of past t a given
+close_belongs past t (Found e s finding.Restart n) now a given = poll_is_of past t a given
+close_belongs past t (Lost w) now a given = poll_is_of past t a given
+close_belongs past t (Dropped w) now a given = poll_is_of past t a given
 
-found_quiet : (past : Past) (p : ℕ) (e : Evidence) (s : Bool) (f : Finding) (now : Bool) → Quiet past (record_by p e s f now)
-found_quiet past p e s (finding.Verdict v) now = quiet_verdict past p e s v now
-found_quiet past p e s finding.Restart now = quiet_restart past p e s now
+close_quiet : (past : Past) (p : ℕ) (by : Close) (now : Bool) → Quiet past (close_record p by now)
+close_quiet past p (Found e s (finding.Verdict v) n) now = quiet_verdict past p e s v now
+close_quiet past p (Found e s finding.Restart n) now = quiet_restart past p e s now
+close_quiet past p (Lost w) now = quiet_lost past p w now
+close_quiet past p (Dropped w) now = quiet_dropped past p w
 
-found_begins : (p : ℕ) (e : Evidence) (s : Bool) (f : Finding) (now : Bool) (q : ℕ) → begins q (record_by p e s f now) ≡ false
-found_begins p e s (finding.Verdict v) now q = refl
-found_begins p e s finding.Restart now q = refl
+close_begins : (p : ℕ) (by : Close) (now : Bool) (q : ℕ) → begins q (close_record p by now) ≡ false
+close_begins p (Found e s (finding.Verdict v) n) now q = refl
+close_begins p (Found e s finding.Restart n) now q = refl
+close_begins p (Lost w) now q = refl
+close_begins p (Dropped w) now q = refl
 
-found_installed : (p : ℕ) (e : Evidence) (s : Bool) (f : Finding) (now : Bool) (own_past : Past) → installed (record_by p e s f now ∷ own_past) ≡ installed own_past
-found_installed p e s (finding.Verdict v) now own_past = refl
-found_installed p e s finding.Restart now own_past = refl
+close_installed : (p : ℕ) (by : Close) (now : Bool) (own_past : Past) → installed (close_record p by now ∷ own_past) ≡ installed own_past
+close_installed p (Found e s (finding.Verdict v) n) now own_past = refl
+close_installed p (Found e s finding.Restart n) now own_past = refl
+close_installed p (Lost w) now own_past = refl
+close_installed p (Dropped w) now own_past = refl
 
--- what is known of the agent's entry where the generation is current
-abbrev pub IsCurrentEntry : History → Past → TicketFields → Option Entry → Type 0
-IsCurrentEntry H past t None = ⊤
-IsCurrentEntry H past t (Some e) = IsEntry H past t.agent e × (e.end ≡ None)
+close_closes : (p : ℕ) (by : Close) (now : Bool) (q : ℕ) → closes q (close_record p by now) ≡ eqb q p
+close_closes p (Found e s (finding.Verdict v) n) now q = refl
+close_closes p (Found e s finding.Restart n) now q = refl
+close_closes p (Lost w) now q = refl
+close_closes p (Dropped w) now q = refl
 
-found_generation : (p : ℕ) (f : Finding) (n : ℕ) (e : Entry) → (found p f n e).generation ≡ e.generation
-found_generation p (finding.Verdict (Pass cut)) n e = refl
-found_generation p (finding.Verdict (Failed why)) n e = refl
-found_generation p (finding.Verdict (Invalid why)) n e = refl
-found_generation p finding.Restart n e = refl
-
-found_place : (p : ℕ) (f : Finding) (n : ℕ) (e : Entry) → (found p f n e).place ≡ e.place
-found_place p (finding.Verdict (Pass cut)) n e = refl
-found_place p (finding.Verdict (Failed why)) n e = refl
-found_place p (finding.Verdict (Invalid why)) n e = refl
-found_place p finding.Restart n e = refl
-
-found_latest : (p : ℕ) (f : Finding) (n : ℕ) (e : Entry) → (found p f n e).latest ≡ e.latest
-found_latest p (finding.Verdict (Pass cut)) n e = refl
-found_latest p (finding.Verdict (Failed why)) n e = refl
-found_latest p (finding.Verdict (Invalid why)) n e = refl
-found_latest p finding.Restart n e = refl
-
--- what is kept of agents after a finding
-pub agents_found : (H : History) (past : Past) (agents agents' : BTreeMap (List ℕ) Entry) (t : TicketFields) (e : Evidence) (s : Bool) (f : Finding) (next : Option Kept)
-    (entries : List EntryFields) (boot : Boot) (entry : Option Entry)
-    → ((a : List ℕ) → HasEntry H past a (get (slice_cmp nat_cmp) agents a)) → IsGiven past t → WasAccepted t.poll (own past t.agent) entries boot → IsAppraisal t e s f next
-    → IsCurrentEntry H past t entry → NotedIf agents agents' t.agent (option_map (found t.poll f (from_of next)) entry)
-    → (b : List ℕ) → HasEntry (H ++ record_by t.poll e s f (is_some entry) ∷ []) (record_by t.poll e s f (is_some entry) ∷ past) b (get (slice_cmp nat_cmp) agents' b)
-agents_found H past agents agents' t e s f next entries boot None are given was appraised known noted b =
-    let calm : Calm past (record_by t.poll e s f false) = (found_quiet past t.poll e s f false).calm in
-    let same : get (slice_cmp nat_cmp) agents' b ≡ get (slice_cmp nat_cmp) agents b = ap (λ (es : List (List ℕ × Entry)). lookup (is_at (slice_cmp nat_cmp b)) es) noted in
-    subst (λ (o : Option Entry). HasEntry (H ++ record_by t.poll e s f false ∷ []) (record_by t.poll e s f false ∷ past) b o) (sym same)
-    (has_same H past (record_by t.poll e s f false) b (get (slice_cmp nat_cmp) agents b) calm (λ q started is agent. found_begins t.poll e s f false q)
-    (found_installed t.poll e s f false) (λ own_past terms entry says. stale_found own_past t.poll e s f terms entry says) (are b))
-agents_found H past agents agents' t e s f next entries boot (Some entry) are given was appraised known noted b =
-    let calm : Calm past (record_by t.poll e s f true) = (found_quiet past t.poll e s f true).calm in
-    let ours : own (record_by t.poll e s f true ∷ past) t.agent ≡ record_by t.poll e s f true ∷ own past t.agent =
-    own_ours past (record_by t.poll e s f true) t.agent (found_belongs past t e s f true t.agent given ∙ eq_yes t.agent t.agent refl) in
-    agents_at agents agents' t.agent (Some (found t.poll f (from_of next) entry)) noted
-    (λ b o. HasEntry (H ++ record_by t.poll e s f true ∷ []) (record_by t.poll e s f true ∷ past) b o)
-    (entry_step H past (record_by t.poll e s f true) t.agent entry (found t.poll f (from_of next) entry) calm
-    (found_generation t.poll f (from_of next) entry) (found_place t.poll f (from_of next) entry) (found_latest t.poll f (from_of next) entry)
-    (λ q started is agent. found_begins t.poll e s f true q) known.0
-    (subst (λ (own_past : Past). Says own_past known.0.with (found t.poll f (from_of next) entry)) (sym ours)
-    (current_found (own past t.agent) t e s f next entries boot known.0.with entry given.kept was appraised known.0.says (known.0.says.end_is ∙ known.1))))
-    (λ b apart. has_theirs H past (record_by t.poll e s f true) b _ calm (λ q started is agent. found_begins t.poll e s f true q) (found_belongs past t e s f true b given ∙ apart) (are b))
-    b
-
-found_closes : (p : ℕ) (e : Evidence) (s : Bool) (f : Finding) (now : Bool) (q : ℕ) → closes q (record_by p e s f now) ≡ eqb q p
-found_closes p e s (finding.Verdict v) now q = refl
-found_closes p e s finding.Restart now q = refl
-
--- the kinds of record that a finding's is, and is not
-record FoundKinds (r : Record) (bytes : ℕ) : Type 0 where
+-- the kinds of record that a close's is, and is not
+record CloseKinds (r : Record) (bytes : ℕ) : Type 0 where
   pub close : is_close r ≡ true
   pub add : is_add r ≡ false
   pub remove : is_remove r ≡ false
   pub release : is_release r ≡ false
   pub weight : weight_of r ≡ bytes
 
-found_kinds : (p : ℕ) (e : Evidence) (s : Bool) (f : Finding) (now : Bool) → FoundKinds (record_by p e s f now) (total_bytes e.bank e.public e.quote e.list)
-found_kinds p e s (finding.Verdict v) now = record { close = refl; add = refl; remove = refl; release = refl; weight = refl }
-found_kinds p e s finding.Restart now = record { close = refl; add = refl; remove = refl; release = refl; weight = refl }
+close_kinds : (p : ℕ) (by : Close) (now : Bool) → CloseKinds (close_record p by now) (close_weight by)
+close_kinds p (Found e s (finding.Verdict v) n) now = record { close = refl; add = refl; remove = refl; release = refl; weight = refl }
+close_kinds p (Found e s finding.Restart n) now = record { close = refl; add = refl; remove = refl; release = refl; weight = refl }
+close_kinds p (Lost w) now = record { close = refl; add = refl; remove = refl; release = refl; weight = refl }
+close_kinds p (Dropped w) now = record { close = refl; add = refl; remove = refl; release = refl; weight = refl }
+
+-- what stays of what is kept of an agent
+record StaysPolled (e f : Entry) : Type 0 where
+  pub generation : f.generation ≡ e.generation
+  pub place : f.place ≡ e.place
+  pub latest : latest_poll f ≡ latest_poll e
+
+stays_polled : (p : ℕ) (by : Close) (e : Entry) → StaysPolled e (after_close p by e)
+stays_polled p (Found e s (finding.Verdict (Pass cut)) n) entry = record { generation = refl; place = refl; latest = refl }
+stays_polled p (Found e s (finding.Verdict (Failed why)) n) entry = record { generation = refl; place = refl; latest = refl }
+stays_polled p (Found e s (finding.Verdict (Invalid why)) n) entry = record { generation = refl; place = refl; latest = refl }
+stays_polled p (Found e s finding.Restart n) entry = record { generation = refl; place = refl; latest = refl }
+stays_polled p (Lost w) entry = record { generation = refl; place = refl; latest = refl }
+stays_polled p (Dropped w) entry = record { generation = refl; place = refl; latest = refl }
+
+-- ---- a close
+row_close : (past : Past) (t : TicketFields) (by : Close) (now : Bool) (entries : List EntryFields) (boot : Boot)
+    → IsGiven past t → is_open past t.poll ≡ true → WasAccepted t.poll (own past t.agent) entries boot → IsCloseOf t by
+    → now ≡ is_current (own past t.agent) t.generation → Row past (close_record t.poll by now)
+row_close past t (Found e s f next) now entries boot given opened was holds current = row_found past t e s f next now entries boot given opened was holds current
+row_close past t (Lost w) now entries boot given opened was holds current = may_close past t now given opened current
+row_close past t (Dropped w) now entries boot given opened was holds current = opened
+
+stale_close : (past : Past) (p : ℕ) (by : Close) (t : TermsFields) (entry : Entry) → Says past t entry → Says (close_record p by false ∷ past) t entry
+stale_close past p (Found e s f next) t entry says = stale_found past p e s f t entry says
+stale_close past p (Lost w) t entry says = says_stale_loss past p w t entry says
+stale_close past p (Dropped w) t entry says = says_dropped past p w t entry says
+
+current_close : (past : Past) (k : TicketFields) (by : Close) (entries : List EntryFields) (boot : Boot) (t : TermsFields) (entry : Entry)
+    → k.kept ≡ None → WasAccepted k.poll past entries boot → IsCloseOf k by → Says past t entry → ended past ≡ None
+    → Says (close_record k.poll by true ∷ past) t (after_close k.poll by entry)
+current_close past k (Found e s f next) entries boot t entry none was holds says live = current_found past k e s f next entries boot t entry none was holds says live
+current_close past k (Lost w) entries boot t entry none was holds says live = says_lost past k.poll w t entry says live
+current_close past k (Dropped w) entries boot t entry none was holds says live = says_dropped past k.poll w t entry says
+
+-- what is known of the agent's entry where the generation is current
+abbrev pub IsCurrentEntry : History → Past → TicketFields → Option Entry → Type 0
+IsCurrentEntry H past t None = ⊤
+IsCurrentEntry H past t (Some e) = IsEntry H past t.agent e × (e.end ≡ None)
+
+-- what an agent's own records say after a close that is current
+pub says_closed : (H : History) (past : Past) (t : TicketFields) (by : Close) (entries : List EntryFields) (boot : Boot) (entry : Entry)
+    → IsGiven past t → WasAccepted t.poll (own past t.agent) entries boot → IsCloseOf t by → (known : IsCurrentEntry H past t (Some entry))
+    → Says (own (close_record t.poll by true ∷ past) t.agent) known.0.with (after_close t.poll by entry)
+says_closed H past t by entries boot entry given was holds known =
+    subst (λ (own_past : Past). Says own_past known.0.with (after_close t.poll by entry))
+    (sym (own_ours past (close_record t.poll by true) t.agent (close_belongs past t by true t.agent given ∙ eq_yes t.agent t.agent refl)))
+    (current_close (own past t.agent) t by entries boot known.0.with entry given.kept was holds known.0.says (known.0.says.end_is ∙ known.1))
+
+-- what is kept of agents after a close
+pub agents_closed : (H : History) (past : Past) (agents agents' : BTreeMap (List ℕ) Entry) (t : TicketFields) (by : Close)
+    (entries : List EntryFields) (boot : Boot) (entry : Option Entry)
+    → ((a : List ℕ) → HasEntry H past a (get (slice_cmp nat_cmp) agents a)) → IsGiven past t → WasAccepted t.poll (own past t.agent) entries boot → IsCloseOf t by
+    → IsCurrentEntry H past t entry → NotedIf agents agents' t.agent (option_map (after_close t.poll by) entry)
+    → (b : List ℕ) → HasEntry (H ++ close_record t.poll by (is_some entry) ∷ []) (close_record t.poll by (is_some entry) ∷ past) b (get (slice_cmp nat_cmp) agents' b)
+agents_closed H past agents agents' t by entries boot None are given was holds known noted b =
+    let calm : Calm past (close_record t.poll by false) = (close_quiet past t.poll by false).calm in
+    let same : get (slice_cmp nat_cmp) agents' b ≡ get (slice_cmp nat_cmp) agents b = ap (λ (es : List (List ℕ × Entry)). lookup (is_at (slice_cmp nat_cmp b)) es) noted in
+    subst (λ (o : Option Entry). HasEntry (H ++ close_record t.poll by false ∷ []) (close_record t.poll by false ∷ past) b o) (sym same)
+    (has_same H past (close_record t.poll by false) b (get (slice_cmp nat_cmp) agents b) calm (λ q started is agent. close_begins t.poll by false q)
+    (close_installed t.poll by false) (λ own_past terms entry says. stale_close own_past t.poll by terms entry says) (are b))
+agents_closed H past agents agents' t by entries boot (Some entry) are given was holds known noted b =
+    let calm : Calm past (close_record t.poll by true) = (close_quiet past t.poll by true).calm in
+    let stays = stays_polled t.poll by entry in
+    agents_at agents agents' t.agent (Some (after_close t.poll by entry)) noted
+    (λ b o. HasEntry (H ++ close_record t.poll by true ∷ []) (close_record t.poll by true ∷ past) b o)
+    (entry_step H past (close_record t.poll by true) t.agent entry (after_close t.poll by entry) calm stays.generation stays.place stays.latest
+    (λ q started is agent. close_begins t.poll by true q) known.0
+    (says_closed H past t by entries boot entry given was holds known))
+    (λ b apart. has_theirs H past (close_record t.poll by true) b _ calm (λ q started is agent. close_begins t.poll by true q) (close_belongs past t by true b given ∙ apart) (are b))
+    b
 
 -- what was accepted when the poll of a ticket began
 pub was_of : (H : History) (past : Past) (t : TicketFields) (k : Opening) → (opening : IsOpening H past t.poll k) → k.agent ≡ t.agent
     → WasAccepted t.poll (own past t.agent) opening.accepted.0 opening.accepted.1
 was_of H past t k opening same = subst (λ (a : List ℕ). WasAccepted t.poll (own past a) opening.accepted.0 opening.accepted.1) same opening.accepted.2
 
-pub book_found : (H : History) (past : Past) (agents agents' : BTreeMap (List ℕ) Entry) (openings openings' : BTreeMap ℕ Opening) (drawn begun weighs capacity : ℕ)
-    (t : TicketFields) (e : Evidence) (s : Bool) (f : Finding) (next : Option Kept) (o : Opening) (entry : Option Entry)
-    → IsBook H past agents openings drawn begun weighs capacity → IsGiven past t → IsOpening H past t.poll o → o.agent ≡ t.agent → IsAppraisal t e s f next
-    → total_bytes e.bank e.public e.quote e.list ≤ 16777216
+pub book_close : (H : History) (past : Past) (agents agents' : BTreeMap (List ℕ) Entry) (openings openings' : BTreeMap ℕ Opening) (drawn begun weighs capacity : ℕ)
+    (t : TicketFields) (by : Close) (o : Opening) (entry : Option Entry)
+    → IsBook H past agents openings drawn begun weighs capacity → IsGiven past t → IsOpening H past t.poll o → o.agent ≡ t.agent → IsCloseOf t by
+    → close_weight by ≤ 16777216
     → is_some entry ≡ is_current (own past t.agent) t.generation → IsCurrentEntry H past t entry
-    → NotedIf agents agents' t.agent (option_map (found t.poll f (from_of next)) entry) → btree_map_len agents' ≡ btree_map_len agents
+    → NotedIf agents agents' t.agent (option_map (after_close t.poll by) entry) → btree_map_len agents' ≡ btree_map_len agents
     → Updates nat_cmp openings openings' t.poll None → btree_map_len openings' + 1 ≡ btree_map_len openings
-    → IsBook (H ++ record_by t.poll e s f (is_some entry) ∷ []) (record_by t.poll e s f (is_some entry) ∷ past) agents' openings' drawn begun
-    (weighs + total_bytes e.bank e.public e.quote e.list) capacity
-book_found H past agents agents' openings openings' drawn begun weighs capacity t e s f next o entry book given opening whose appraised light current known noted len up less =
+    → IsBook (H ++ close_record t.poll by (is_some entry) ∷ []) (close_record t.poll by (is_some entry) ∷ past) agents' openings' drawn begun (weighs + close_weight by) capacity
+book_close H past agents agents' openings openings' drawn begun weighs capacity t by o entry book given opening whose holds light current known noted len up less =
     let was = was_of H past t o opening whose in
-    let kinds = found_kinds t.poll e s f (is_some entry) in
-    subst (λ (n : ℕ). IsBook (H ++ record_by t.poll e s f (is_some entry) ∷ []) (record_by t.poll e s f (is_some entry) ∷ past) agents' openings' drawn begun (weighs + n) capacity) kinds.weight
-    (book_closed H past (record_by t.poll e s f (is_some entry)) agents agents' openings openings' drawn begun weighs capacity t.poll book (found_quiet past t.poll e s f (is_some entry))
-    (row_found past t e s f next (is_some entry) opening.accepted.0 opening.accepted.1 given opening.unclosed was appraised current)
-    (found_begins t.poll e s f (is_some entry)) (found_closes t.poll e s f (is_some entry)) kinds.close kinds.add kinds.remove kinds.release (omega (arith, kinds.weight, light))
-    (agents_found H past agents agents' t e s f next opening.accepted.0 opening.accepted.1 entry book.agents_are given was appraised known noted)
+    let kinds = close_kinds t.poll by (is_some entry) in
+    subst (λ (n : ℕ). IsBook (H ++ close_record t.poll by (is_some entry) ∷ []) (close_record t.poll by (is_some entry) ∷ past) agents' openings' drawn begun (weighs + n) capacity) kinds.weight
+    (book_closed H past (close_record t.poll by (is_some entry)) agents agents' openings openings' drawn begun weighs capacity t.poll book (close_quiet past t.poll by (is_some entry))
+    (row_close past t by (is_some entry) opening.accepted.0 opening.accepted.1 given opening.unclosed was holds current)
+    (close_begins t.poll by (is_some entry)) (close_closes t.poll by (is_some entry)) kinds.close kinds.add kinds.remove kinds.release (omega (arith, kinds.weight, light))
+    (agents_closed H past agents agents' t by opening.accepted.0 opening.accepted.1 entry book.agents_are given was holds known noted)
     len up less)
-
--- ---- a poll is dropped
-pub agents_dropped : (H : History) (past : Past) (agents : BTreeMap (List ℕ) Entry) (p : ℕ) (w : DropWhy) → ((a : List ℕ) → HasEntry H past a (get (slice_cmp nat_cmp) agents a))
-    → (b : List ℕ) → HasEntry (H ++ Dropped p w ∷ []) (Dropped p w ∷ past) b (get (slice_cmp nat_cmp) agents b)
-agents_dropped H past agents p w are b =
-    has_same H past (Dropped p w) b (get (slice_cmp nat_cmp) agents b) (quiet_dropped past p w).calm (λ q started is agent. refl) (λ own_past. refl)
-    (λ own_past terms entry says. says_dropped own_past p w terms entry says) (are b)
-
-pub book_dropped : (H : History) (past : Past) (agents : BTreeMap (List ℕ) Entry) (openings openings' : BTreeMap ℕ Opening) (drawn begun weighs capacity p : ℕ) (w : DropWhy)
-    → IsBook H past agents openings drawn begun weighs capacity → is_open past p ≡ true
-    → Updates nat_cmp openings openings' p None → btree_map_len openings' + 1 ≡ btree_map_len openings
-    → IsBook (H ++ Dropped p w ∷ []) (Dropped p w ∷ past) agents openings' drawn begun weighs capacity
-book_dropped H past agents openings openings' drawn begun weighs capacity p w book opened up less =
-    let none : weighs + 0 ≡ weighs = omega arith in
-    subst (λ (n : ℕ). IsBook (H ++ Dropped p w ∷ []) (Dropped p w ∷ past) agents openings' drawn begun n capacity) none
-    (book_closed H past (Dropped p w) agents agents openings openings' drawn begun weighs capacity p book (quiet_dropped past p w) opened
-    (λ q. refl) (λ q. refl) refl refl refl refl (omega arith) (agents_dropped H past agents p w book.agents_are) refl up less)
 
 -- ---- what is looked up
 pub known_of : (H : History) (past : Past) (t : TicketFields) (entry : Option Entry) → IfSome entry (λ e. IsEntry H past t.agent e) → IfSome entry (λ e. e.end ≡ None) → IsCurrentEntry H past t entry
@@ -297,9 +314,9 @@ pub whose : (H : History) (past : Past) (t : TicketFields) (k : Opening) → IsO
 whose H past t k opening given = ap (λ (s : Start). s.agent) (same_Some _ _ (sym opening.given.began ∙ given.began))
 
 -- an agent whose entry changes is kept
-pub note_where : (H : History) (past : Past) (agents : BTreeMap (List ℕ) Entry) (t : TicketFields) (entry : Option Entry) (p : ℕ) (f : Finding) (n : ℕ)
+pub note_where : (H : History) (past : Past) (agents : BTreeMap (List ℕ) Entry) (t : TicketFields) (entry : Option Entry) (p : ℕ) (by : Close)
     → ((a : List ℕ) → HasEntry H past a (get (slice_cmp nat_cmp) agents a)) → IsCurrentEntry H past t entry
-    → IfSome (option_map (found p f n) entry) (λ _. IsSome (get (slice_cmp nat_cmp) agents t.agent))
-note_where H past agents t None p f n are known = tt
-note_where H past agents t (Some e) p f n are known =
+    → IfSome (option_map (after_close p by) entry) (λ _. IsSome (get (slice_cmp nat_cmp) agents t.agent))
+note_where H past agents t None p by are known = tt
+note_where H past agents t (Some e) p by are known =
     kept_installed H past t.agent (get (slice_cmp nat_cmp) agents t.agent) (are t.agent) ∙ ap is_some known.0.says.terms_are

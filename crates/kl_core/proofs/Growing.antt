@@ -173,7 +173,7 @@ pub book_begun : (H : History) (past : Past) (agents agents' : BTreeMap (List �
     (a n : List ℕ) (at : ℕ) (e : Entry)
     → IsBook H past agents openings drawn begun weighs capacity → p ≡ begun + 1 → IsEntry H past a e → is_current (own past a) e.generation ≡ true
     → ((q : ℕ) → ¬ (IsBusy past a e.generation q))
-    → Updates (slice_cmp nat_cmp) agents agents' a (Some (polled p e)) → btree_map_len agents' ≡ btree_map_len agents
+    → Updates (slice_cmp nat_cmp) agents agents' a (Some (polled p at e)) → btree_map_len agents' ≡ btree_map_len agents
     → Updates nat_cmp openings openings' p (Some (record { agent = a; generation = e.generation; nonce = n; place = e.place }))
     → btree_map_len openings' ≡ btree_map_len openings + 1
     → HasRoom past 2 → HasBytes past 16777216 → length H + (btree_map_len openings + 2) ≤ capacity'
@@ -197,7 +197,7 @@ book_begun H past agents agents' openings openings' drawn begun weighs capacity 
       fits = fits;
       as_long = omega (arith, book.as_long);
       numbers = numbers_begin past p a e.generation n at 0 book.numbers next_poll (book.numbers.named_within e.generation entry.with entry.named);
-      agents_are = agents_at agents agents' a (Some (polled p e)) up (λ b o. HasEntry (H ++ Begin p a e.generation n at 0 ∷ []) (Begin p a e.generation n at 0 ∷ past) b o)
+      agents_are = agents_at agents agents' a (Some (polled p at e)) up (λ b o. HasEntry (H ++ Begin p a e.generation n at 0 ∷ []) (Begin p a e.generation n at 0 ∷ past) b o)
           (entry_polled H past p a n at 0 e book.numbers next_poll idle entry)
           (λ b apart. has_theirs H past (Begin p a e.generation n at 0) b _ calm (begins_theirs past p a e.generation n at 0 b apart) apart (book.agents_are b));
       polls_are = polls_at openings openings' p _ up_polls (λ q o. HasOpening (H ++ Begin p a e.generation n at 0 ∷ []) (Begin p a e.generation n at 0 ∷ past) q o)

@@ -23,7 +23,7 @@ use Rattle.kl_core.specs.declared.entry.Entry.{Entry}
 use Rattle.kl_core.specs.declared.entry.Opening.{Opening}
 use Rattle.kl_core.specs.Tickets.{IsGiven}
 use Rattle.kl_core.specs.Inner.Keeping.{Says, IsPollOf, IsEntry, HasEntry, ticket_of, IsOpening, HasOpening, Numbers}
-use Rattle.kl_core.specs.Inner.Steps.{fresh, polled}
+use Rattle.kl_core.specs.Inner.Steps.{latest_poll, fresh, polled}
 use Rattle.kl_core.proofs.Texts.{same_or_not, eq_yes, eq_no}
 use Rattle.kl_core.proofs.OneMore.{Calm, terms_at-front, terms_at-end, calm_begin}
 use Rattle.kl_core.proofs.Ours.{own_theirs, own_ours, was_own, was_now, says_polled}
@@ -74,7 +74,7 @@ abbrev pub BeginsNone : Past → Record → List ℕ → Type 0
 BeginsNone past r a = (q : ℕ) (s : Start) → start_of (r ∷ past) q ≡ Some s → s.agent ≡ a → begins q r ≡ false
 
 -- what is kept of an agent under the same generation
-pub entry_step : (H : History) (past : Past) (r : Record) (a : List ℕ) (e f : Entry) → Calm past r → f.generation ≡ e.generation → f.place ≡ e.place → f.latest ≡ e.latest
+pub entry_step : (H : History) (past : Past) (r : Record) (a : List ℕ) (e f : Entry) → Calm past r → f.generation ≡ e.generation → f.place ≡ e.place → latest_poll f ≡ latest_poll e
     → BeginsNone past r a → (entry : IsEntry H past a e) → Says (own (r ∷ past) a) entry.with f → IsEntry (H ++ r ∷ []) (r ∷ past) a f
 entry_step H past r a e f calm same_generation same_place same_latest none entry says = record {
   with = entry.with;
@@ -122,14 +122,14 @@ begins_theirs past p b g n at from a apart q s is agent = elim (cases_eq q p) [
 
 pub entry_polled : (H : History) (past : Past) (p : ℕ) (a : List ℕ) (n : List ℕ) (at from : ℕ) (e : Entry) → Numbers past → p ≡ polls past + 1
     → ((q : ℕ) → ¬ (IsBusy past a e.generation q)) → IsEntry H past a e
-    → IsEntry (H ++ Begin p a e.generation n at from ∷ []) (Begin p a e.generation n at from ∷ past) a (polled p e)
+    → IsEntry (H ++ Begin p a e.generation n at from ∷ []) (Begin p a e.generation n at from ∷ past) a (polled p at e)
 entry_polled H past p a n at from e numbers next idle entry =
     let calm = calm_begin past p a e.generation n at from numbers.begun_within next in
     record {
       with = entry.with;
       place_is = terms_at-front H (Begin p a e.generation n at from ∷ []) e.place entry.with entry.place_is;
       named = entry.named;
-      says = subst (λ (own_past : Past). Says own_past entry.with (polled p e)) (sym (own_ours past (Begin p a e.generation n at from) a (eq_yes a a refl)))
+      says = subst (λ (own_past : Past). Says own_past entry.with (polled p at e)) (sym (own_ours past (Begin p a e.generation n at from) a (eq_yes a a refl)))
           (says_polled (own past a) p a e.generation n at from entry.with e entry.says);
       busy_is_latest = λ q busy. elim (cases_eq q p) [
         | inl is ↦ ap (λ k. Some k) (sym is)

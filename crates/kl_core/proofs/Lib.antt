@@ -6,6 +6,8 @@ pub mod Keeping
 pub mod Growing
 pub mod Findings
 pub mod Ending
+pub mod FirstDue
+pub mod Downfalls
 pub mod Telling
 pub mod Givens
 pub mod OneAnswer

@@ -1,5 +1,11 @@
 -- A call has one answer, unless memory runs out: of the reasons to refuse it the first that applies is one.
-use Rattle.std.proofs.Common.{◌≡◌, ◌≢◌, ◌⊎◌, ℕ, Bool, List, ◌∷◌, length, Option, Some, None, is_some, Ok, Err, inl, inr, refl, ap, sym, ◌∙◌, subst, arith}
+use Rattle.std.proofs.Common.{◌≡◌, ◌≢◌, ◌⊎◌, ℕ, Bool, true, false, List, ◌∷◌, length, Option, Some, None, is_some, Ok, Err, Ordering, inl, inr, refl, ap, sym, ◌∙◌, subst, arith}
+use Rattle.std.specs.Prelude.{Result}
+use Rattle.std.specs.Ordering.{nat_cmp, is_gt, is_eq, ordering_reverse}
+use Rattle.std.specs.declared.cmp.Ordering.TheVariants.{Less, Equal, Greater}
+use Rattle.std.specs.Cmp.Lexicographic.{slice_cmp}
+use Rattle.std.proofs.lemmas.Cmp.{nat_list_cmp_total}
+use Rattle.std.proofs.lemmas.Map.Text.{is_eq-slice_cmp}
 use Rattle.std.proofs.lemmas.Bool.{false≢true}
 use Rattle.std.proofs.lemmas.Option.{same_Some, none-some}
 use Rattle.kl_policy.specs.PolicyFields.{PolicyFields}
@@ -9,10 +15,10 @@ use Rattle.kl_incr.specs.Appraisal.{AppraisedFields}
 use Rattle.kl_states.specs.declared.op.Op.{Op}
 use Rattle.kl_states.specs.declared.op.State.{State}
 use Rattle.kl_states.specs.declared.outcome.DropWhy.{DropWhy}
+use Rattle.kl_states.specs.declared.outcome.LostWhy.{LostWhy}
 use Rattle.kl_appraise.specs.declared.kept.Kept.{Kept}
 use Rattle.kl_entry.specs.Entries.{EntryFields}
 use Rattle.kl_history.specs.declared.record.Record.{Record}
-use Rattle.kl_history.specs.declared.record.Record.TheVariants.{Dropped as DroppedRecord}
 use Rattle.kl_history.specs.Records.{History, Past, past_of, own}
 use Rattle.kl_history.specs.LookBacks.{Installed, installed}
 use Rattle.kl_history.specs.Legal.{Legal, IsBusy}
@@ -25,9 +31,13 @@ use Rattle.kl_core.specs.Endings.{RefusesStop, Stops, RefusesRemove, Removes}
 use Rattle.kl_core.specs.Begins.{MayPoll, IsPolled, RefusesBegin, Begins, BeginAnswers}
 use Rattle.kl_core.specs.declared.closed.Closed.{Closed}
 use Rattle.kl_core.specs.declared.closed.ClosedAs.{ClosedAs}
-use Rattle.kl_core.specs.declared.closed.ClosedAs.TheVariants.{Dropped}
-use Rattle.kl_core.specs.Closes.{IsClosed, closed_by, found_record, OwnFinishes, Finishes, OwnDrops, Drops}
+use Rattle.kl_core.specs.declared.closed.ClosedAs.TheVariants.{Lost, Dropped}
+use Rattle.kl_core.specs.Closes.{IsClosed, OwnCloses, AnyCloses, closed_by, found_record, OwnFinishes, Finishes, lost_record, OwnLoses, Loses, dropped_record, OwnDrops, Drops}
+use Rattle.kl_core.specs.Books.{BookFields}
 use Rattle.kl_core.specs.States.{IsState, StateAnswers}
+use Rattle.kl_core.specs.Picks.{IsAhead, PickAnswers}
+use Rattle.kl_core.specs.Delivering.{NoticeAnswers, MarkAnswers}
+use Rattle.kl_core.proofs.Texts.{eq_same}
 use Rattle.kl_core.specs.Answers.{IsAmple, IsAmpleWith, IsAny, IsOneAnswer}
 
 -- a refusal that is one, with what it hands back
@@ -229,29 +239,38 @@ pub one_close_by : (past : Past) (made : Bool → Record) (t : TicketFields) (wh
 one_close_by past made t what c d x y =
     one_close past (made c.current) t what c d x (subst (λ (now : Bool). IsClosed past (made now) t what d) (y.now ∙ sym x.now) y)
 
+-- of one ticket, whatever closes its poll
+one_own : {A : Type 0} (past : Past) (t : TicketFields) (made : Bool → Record) (what : ClosedAs) (taken : A)
+    → IsOneAnswer IsAny (OwnCloses t made what taken) past
+one_own past t made what taken (Ok c) (Ok d) x y m n = ap Ok (one_close_by past made t what c d x.1 y.1)
+one_own past t made what taken (Ok c) (Err e) x y m n = absurd (false≢true (sym y.0 ∙ x.0))
+one_own past t made what taken (Err e) (Ok d) x y m n = absurd (false≢true (sym x.0 ∙ y.0))
+one_own past t made what taken (Err e) (Err f) x y m n = ap Err (x.1 ∙ sym y.1)
+
+one_any : {A : Type 0} (past : Past) (t : TicketFields) (made : Bool → Record) (what : ClosedAs) (taken : A)
+    → IsOneAnswer IsAny (AnyCloses t made what taken) past
+one_any past t made what taken (Ok c) (Ok d) x y m n = ap Ok (one_close_by past made t what c d x.1 y.1)
+one_any past t made what taken (Ok c) (Err e) x y m n = absurd (y.0 x.0)
+one_any past t made what taken (Err e) (Ok d) x y m n = absurd (x.0 y.0)
+one_any past t made what taken (Err e) (Err f) x y m n = ap Err (x.1 ∙ sym y.1)
+
 pub one_own_finish : (past : Past) (a : AppraisedFields) → IsOneAnswer IsAny (OwnFinishes a) past
-one_own_finish past a (Ok c) (Ok d) x y m n = ap Ok (one_close_by past (found_record a) a.ticket (closed_by a.finding) c d x.1 y.1)
-one_own_finish past a (Ok c) (Err e) x y m n = absurd (false≢true (sym y.0 ∙ x.0))
-one_own_finish past a (Err e) (Ok d) x y m n = absurd (false≢true (sym x.0 ∙ y.0))
-one_own_finish past a (Err e) (Err f) x y m n = ap Err (x.1 ∙ sym y.1)
+one_own_finish past a = one_own past a.ticket (found_record a) (closed_by a.finding) a
 
 pub one_finish : (past : Past) (a : AppraisedFields) → IsOneAnswer IsAny (Finishes a) past
-one_finish past a (Ok c) (Ok d) x y m n = ap Ok (one_close_by past (found_record a) a.ticket (closed_by a.finding) c d x.1 y.1)
-one_finish past a (Ok c) (Err e) x y m n = absurd (y.0 x.0)
-one_finish past a (Err e) (Ok d) x y m n = absurd (x.0 y.0)
-one_finish past a (Err e) (Err f) x y m n = ap Err (x.1 ∙ sym y.1)
+one_finish past a = one_any past a.ticket (found_record a) (closed_by a.finding) a
+
+pub one_own_loss : (past : Past) (t : TicketFields) (why : LostWhy) → IsOneAnswer IsAny (OwnLoses t why) past
+one_own_loss past t why = one_own past t (lost_record t.poll why) (Lost why) t
+
+pub one_loss : (past : Past) (t : TicketFields) (why : LostWhy) → IsOneAnswer IsAny (Loses t why) past
+one_loss past t why = one_any past t (lost_record t.poll why) (Lost why) t
 
 pub one_own_drop : (past : Past) (t : TicketFields) (why : DropWhy) → IsOneAnswer IsAny (OwnDrops t why) past
-one_own_drop past t why (Ok c) (Ok d) x y m n = ap Ok (one_close past (DroppedRecord t.poll why) t (Dropped why) c d x.1 y.1)
-one_own_drop past t why (Ok c) (Err e) x y m n = absurd (false≢true (sym y.0 ∙ x.0))
-one_own_drop past t why (Err e) (Ok d) x y m n = absurd (false≢true (sym x.0 ∙ y.0))
-one_own_drop past t why (Err e) (Err f) x y m n = ap Err (x.1 ∙ sym y.1)
+one_own_drop past t why = one_own past t (dropped_record t.poll why) (Dropped why) t
 
 pub one_drop : (past : Past) (t : TicketFields) (why : DropWhy) → IsOneAnswer IsAny (Drops t why) past
-one_drop past t why (Ok c) (Ok d) x y m n = ap Ok (one_close past (DroppedRecord t.poll why) t (Dropped why) c d x.1 y.1)
-one_drop past t why (Ok c) (Err e) x y m n = absurd (y.0 x.0)
-one_drop past t why (Err e) (Ok d) x y m n = absurd (x.0 y.0)
-one_drop past t why (Err e) (Err f) x y m n = ap Err (x.1 ∙ sym y.1)
+one_drop past t why = one_any past t (dropped_record t.poll why) (Dropped why) t
 
 -- ---- state
 state_by : Op → ℕ → ℕ → State
@@ -277,3 +296,33 @@ one_state past a None None x y m n = refl
 one_state past a None (Some z) x y m n = absurd (none-some y.with (sym x ∙ y.installed))
 one_state past a (Some s) None x y m n = absurd (none-some x.with (sym y ∙ x.installed))
 one_state past a (Some s) (Some z) x y m n = ap Some (one_state_of past a s z x y)
+
+-- ---- pick
+names_alike : (a b : List ℕ) → is_gt (slice_cmp nat_cmp a b) ≡ false → is_gt (slice_cmp nat_cmp b a) ≡ false → a ≡ b
+names_alike a b le ge = by_order (slice_cmp nat_cmp a b) refl le (ap is_gt (sym (nat_list_cmp_total.antisymm b a)) ∙ ge) where
+  by_order : (o : Ordering) → slice_cmp nat_cmp a b ≡ o → is_gt o ≡ false → is_gt (ordering_reverse o) ≡ false → a ≡ b
+  by_order Less is le ge = absurd (false≢true (sym ge))
+  by_order Equal is le ge = eq_same a b (sym (is_eq-slice_cmp a b) ∙ ap is_eq is)
+  by_order Greater is le ge = absurd (false≢true (sym le))
+
+not_ahead : (past : Past) (a b : List ℕ) → IsAhead past a b → IsAhead past b a → a ≡ b
+not_ahead past a b (inl less) (inl more) = absurd (omega arith)
+not_ahead past a b (inl less) (inr (same, _)) = absurd (omega arith)
+not_ahead past a b (inr (same, _)) (inl more) = absurd (omega arith)
+not_ahead past a b (inr (same, le)) (inr (_, ge)) = names_alike a b le ge
+
+pub one_pick : (past : Past) (now : ℕ) → IsOneAnswer IsAny (PickAnswers now) past
+one_pick past now None None x y m n = refl
+one_pick past now None (Some b) x y m n = absurd (x b y.waiting)
+one_pick past now (Some a) None x y m n = absurd (y a x.waiting)
+one_pick past now (Some a) (Some b) x y m n = ap Some (not_ahead past a b (x.ahead b y.waiting) (y.ahead a x.waiting))
+
+-- ---- notices
+pub one_notice : (found : BookFields) → IsOneAnswer IsAny NoticeAnswers found
+one_notice found p q x y m n = x ∙ sym y
+
+pub one_mark : (found : BookFields) (number : ℕ) → IsOneAnswer IsAny (MarkAnswers number) found
+one_mark found number true true x y m n = refl
+one_mark found number true false x y m n = absurd (false≢true (y.1 (x.0 refl)))
+one_mark found number false true x y m n = absurd (false≢true (x.1 (y.0 refl)))
+one_mark found number false false x y m n = refl

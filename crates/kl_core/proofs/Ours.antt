@@ -1,9 +1,10 @@
 -- Which agent a record belongs to, and what one record more does to what an agent's own records say.
-use Rattle.std.proofs.Common.{◌≡◌, ℕ, Bool, true, false, cond, ◌||◌, List, [], ◌∷◌, Some, None, refl, ap, sym, ◌∙◌, subst}
+use Rattle.std.proofs.Common.{◌≡◌, ℕ, suc, ◌+◌, ◌<◌, Bool, true, false, cond, ◌||◌, List, [], ◌∷◌, Option, Some, None, refl, ap, sym, ◌∙◌, subst, arith}
 use Rattle.std.specs.Prelude.{is_some}
-use Rattle.std.proofs.lemmas.Bool.{cond-false, cond-true, eq-eqb, or_parts}
+use Rattle.std.proofs.lemmas.Bool.{cond-false, cond-true, eq-eqb, or_parts, both_ways}
 use lib.Dec.{eqb}
 use Rattle.kl_entry.specs.Entries.{EntryFields}
+use Rattle.kl_states.specs.declared.op.Op.{Op}
 use Rattle.kl_states.specs.declared.op.Op.TheVariants.{TenantFailed, InvalidQuote, Failed as StateFailed}
 use Rattle.kl_states.specs.declared.verdict.Verdict.TheVariants.{Pass, Failed, Invalid}
 use Rattle.kl_quote.specs.declared.evidence.Evidence.{Evidence}
@@ -20,7 +21,7 @@ use Rattle.kl_history.specs.States.{ended, is_stop, is_invalid, is_failed, HasRe
 use Rattle.kl_core.specs.declared.entry.Entry.{Entry}
 use Rattle.kl_core.specs.Inner.Keeping.{Says}
 use Rattle.kl_core.specs.States.{Accepted}
-use Rattle.kl_core.specs.Inner.Steps.{fresh, stopped, polled, found}
+use Rattle.kl_core.specs.Inner.Steps.{fresh, stopped, polled, lost, found}
 
 -- ---- whose a record is
 pub own_theirs : (past : Past) (r : Record) (a : List ℕ) → belongs past a r ≡ false → own (r ∷ past) a ≡ own past a
@@ -65,11 +66,13 @@ says_fresh past a g t w place unreached = record {
   v_is = refl;
   end_is = refl;
   losses_are = refl;
+  few_losses = omega arith;
   none_missed = refl;
   none_reached = unreached;
   pass_is = refl;
   accepted = ([], no_boot, (refl, refl), refl);
   polled = refl;
+  begun = refl;
 }
 
 pub says_stopped : (past : Past) (a : List ℕ) (t : TermsFields) (e : Entry) → Says past t e → Says (Stop a ∷ past) t (stopped e)
@@ -79,25 +82,29 @@ says_stopped past a t e says = record {
   v_is = says.v_is;
   end_is = refl;
   losses_are = says.losses_are;
+  few_losses = says.few_losses;
   none_missed = says.none_missed;
   none_reached = says.none_reached;
   pass_is = says.pass_is;
   accepted = says.accepted;
   polled = says.polled;
+  begun = says.begun;
 }
 
-pub says_polled : (past : Past) (p : ℕ) (a : List ℕ) (g : ℕ) (n : List ℕ) (at from : ℕ) (t : TermsFields) (e : Entry) → Says past t e → Says (Begin p a g n at from ∷ past) t (polled p e)
+pub says_polled : (past : Past) (p : ℕ) (a : List ℕ) (g : ℕ) (n : List ℕ) (at from : ℕ) (t : TermsFields) (e : Entry) → Says past t e → Says (Begin p a g n at from ∷ past) t (polled p at e)
 unfolding HasAccepted
 says_polled past p a g n at from t e says = record {
   terms_are = says.terms_are;
   v_is = says.v_is;
   end_is = says.end_is;
   losses_are = says.losses_are;
+  few_losses = says.few_losses;
   none_missed = says.none_missed;
   none_reached = says.none_reached;
   pass_is = says.pass_is;
   accepted = says.accepted;
   polled = refl;
+  begun = refl;
 }
 
 pub says_dropped : (past : Past) (p : ℕ) (w : _) (t : TermsFields) (e : Entry) → Says past t e → Says (Dropped p w ∷ past) t e
@@ -107,11 +114,13 @@ says_dropped past p w t e says = record {
   v_is = says.v_is;
   end_is = says.end_is;
   losses_are = says.losses_are;
+  few_losses = says.few_losses;
   none_missed = says.none_missed;
   none_reached = says.none_reached;
   pass_is = says.pass_is;
   accepted = says.accepted;
   polled = says.polled;
+  begun = says.begun;
 }
 
 -- ---- a finding
@@ -132,13 +141,15 @@ record Going (past : Past) : Type 0 where
   pub stop : came is_stop past ≡ false
   pub invalid : came is_invalid past ≡ false
   pub failed : came is_failed past ≡ false
+  pub losing : eqb (losses past) 5 ≡ false
   pub missing : eqb (missed past) 5 ≡ false
 
 going : (past : Past) → ended past ≡ None → Going past
 going past live =
     let parts = none_of (came is_stop past) (came is_invalid past) (came is_failed past || (eqb (losses past) 5 || eqb (missed past) 5)) live in
     let failing = or_parts (came is_failed past) (eqb (losses past) 5 || eqb (missed past) 5) parts.2 in
-    record { stop = parts.0; invalid = parts.1; failed = failing.0; missing = (or_parts (eqb (losses past) 5) (eqb (missed past) 5) failing.1).1 }
+    let lacking = or_parts (eqb (losses past) 5) (eqb (missed past) 5) failing.1 in
+    record { stop = parts.0; invalid = parts.1; failed = failing.0; losing = lacking.0; missing = lacking.1 }
 
 or_none : (a b : Bool) → a ≡ false → b ≡ false → (a || b) ≡ false
 or_none a b no_a no_b = ap (λ x. x || b) no_a ∙ no_b
@@ -152,11 +163,13 @@ says_passed past p e s cut t n entry says live accepted =
       v_is = says.v_is;
       end_is = still_none _ _ (came is_failed past || eqb (missed past) 5) g.stop g.invalid (or_none _ _ g.failed g.missing) ∙ sym live ∙ says.end_is;
       losses_are = refl;
+      few_losses = omega arith;
       none_missed = says.none_missed;
       none_reached = says.none_reached;
       pass_is = refl;
       accepted = accepted;
       polled = says.polled;
+      begun = says.begun;
     }
 
 pub says_failed : (past : Past) (p : ℕ) (e : Evidence) (s : Bool) (why : _) (t : TermsFields) (n : ℕ) (entry : Entry) → Says past t entry → ended past ≡ None
@@ -169,11 +182,13 @@ says_failed past p e s why t n entry says live =
       v_is = says.v_is;
       end_is = now_failed _ _ g.stop g.invalid;
       losses_are = refl;
+      few_losses = omega arith;
       none_missed = says.none_missed;
       none_reached = says.none_reached;
       pass_is = refl;
       accepted = says.accepted;
       polled = says.polled;
+      begun = says.begun;
     }
 
 pub says_invalid : (past : Past) (p : ℕ) (e : Evidence) (s : Bool) (why : _) (t : TermsFields) (n : ℕ) (entry : Entry) → Says past t entry → ended past ≡ None
@@ -186,11 +201,13 @@ says_invalid past p e s why t n entry says live =
       v_is = says.v_is;
       end_is = cond-false (came is_stop past) _ _ g.stop;
       losses_are = refl;
+      few_losses = omega arith;
       none_missed = says.none_missed;
       none_reached = says.none_reached;
       pass_is = refl;
       accepted = says.accepted;
       polled = says.polled;
+      begun = says.begun;
     }
 
 pub says_restarted : (past : Past) (p : ℕ) (e : Evidence) (s : Bool) (t : TermsFields) (n : ℕ) (entry : Entry) → Says past t entry → ended past ≡ None
@@ -203,11 +220,13 @@ says_restarted past p e s t n entry says live =
       v_is = says.v_is;
       end_is = still_none _ _ (came is_failed past || eqb (missed past) 5) g.stop g.invalid (or_none _ _ g.failed g.missing) ∙ sym live ∙ says.end_is;
       losses_are = refl;
+      few_losses = omega arith;
       none_missed = says.none_missed;
       none_reached = says.none_reached;
       pass_is = refl;
       accepted = ([], no_boot, (refl, refl), refl);
       polled = says.polled;
+      begun = says.begun;
     }
 
 -- a finding that is not current changes nothing
@@ -218,33 +237,39 @@ says_stale_verdict past p e s (Pass cut) t entry says = record {
   v_is = says.v_is;
   end_is = says.end_is;
   losses_are = says.losses_are;
+  few_losses = says.few_losses;
   none_missed = says.none_missed;
   none_reached = says.none_reached;
   pass_is = says.pass_is;
   accepted = says.accepted;
   polled = says.polled;
+  begun = says.begun;
 }
 says_stale_verdict past p e s (Failed why) t entry says = record {
   terms_are = says.terms_are;
   v_is = says.v_is;
   end_is = says.end_is;
   losses_are = says.losses_are;
+  few_losses = says.few_losses;
   none_missed = says.none_missed;
   none_reached = says.none_reached;
   pass_is = says.pass_is;
   accepted = says.accepted;
   polled = says.polled;
+  begun = says.begun;
 }
 says_stale_verdict past p e s (Invalid why) t entry says = record {
   terms_are = says.terms_are;
   v_is = says.v_is;
   end_is = says.end_is;
   losses_are = says.losses_are;
+  few_losses = says.few_losses;
   none_missed = says.none_missed;
   none_reached = says.none_reached;
   pass_is = says.pass_is;
   accepted = says.accepted;
   polled = says.polled;
+  begun = says.begun;
 }
 
 pub says_stale_restart : (past : Past) (p : ℕ) (e : Evidence) (s : Bool) (t : TermsFields) (entry : Entry) → Says past t entry → Says (Restart p e s false ∷ past) t entry
@@ -254,9 +279,68 @@ says_stale_restart past p e s t entry says = record {
   v_is = says.v_is;
   end_is = says.end_is;
   losses_are = says.losses_are;
+  few_losses = says.few_losses;
   none_missed = says.none_missed;
   none_reached = says.none_reached;
   pass_is = says.pass_is;
   accepted = says.accepted;
   polled = says.polled;
+  begun = says.begun;
+}
+
+-- ---- a loss
+-- a live agent has lost fewer than five polls in a row
+pub few_lost : (past : Past) (t : TermsFields) (e : Entry) → Says past t e → ended past ≡ None → e.losses < 5
+few_lost past t e says live =
+    let not_five : ¬ (e.losses ≡ 5) = λ five. both_ways (eqb (losses past) 5) (going past live).losing (eq-eqb (losses past) 5 (says.losses_are ∙ five)) in
+    omega (arith, says.few_losses, not_five)
+
+alone : (f b m : Bool) → f ≡ false → m ≡ false → (f || (b || m)) ≡ b
+alone true b m no_f no_m = cc
+alone false true m no_f no_m = refl
+alone false false m no_f no_m = no_m
+
+lost_end : (past : Past) (p : ℕ) (w : _) → Going past → ended (Lost p w true ∷ past) ≡ cond (eqb (suc (losses past)) 5) (Some StateFailed) None
+lost_end past p w g =
+    cond-false (came is_stop past) _ _ g.stop
+    ∙ cond-false (came is_invalid past) _ _ g.invalid
+    ∙ ap (λ b. cond b (Some StateFailed) None) (alone (came is_failed past) (eqb (suc (losses past)) 5) (eqb (missed past) 5) g.failed g.missing)
+
+pub says_lost : (past : Past) (p : ℕ) (w : _) (t : TermsFields) (entry : Entry) → Says past t entry → ended past ≡ None → Says (Lost p w true ∷ past) t (lost entry)
+unfolding HasAccepted
+says_lost past p w t entry says live =
+    let few = few_lost past t entry says live in
+    let more : suc (losses past) ≡ entry.losses + 1 = omega (arith, says.losses_are) in
+    record {
+      terms_are = says.terms_are;
+      v_is = says.v_is;
+      end_is =
+          lost_end past p w (going past live)
+          ∙ ap (λ n. cond (eqb n 5) (Some StateFailed) None) more
+          ∙ ap (λ (o : Option Op). cond (eqb (entry.losses + 1) 5) (Some StateFailed) o) (sym live ∙ says.end_is);
+      losses_are = more;
+      few_losses = omega (arith, few);
+      none_missed = says.none_missed;
+      none_reached = says.none_reached;
+      pass_is = says.pass_is;
+      accepted = says.accepted;
+      polled = says.polled;
+      begun = says.begun;
+    }
+
+-- a loss that is not current changes nothing
+pub says_stale_loss : (past : Past) (p : ℕ) (w : _) (t : TermsFields) (entry : Entry) → Says past t entry → Says (Lost p w false ∷ past) t entry
+unfolding HasAccepted
+says_stale_loss past p w t entry says = record {
+  terms_are = says.terms_are;
+  v_is = says.v_is;
+  end_is = says.end_is;
+  losses_are = says.losses_are;
+  few_losses = says.few_losses;
+  none_missed = says.none_missed;
+  none_reached = says.none_reached;
+  pass_is = says.pass_is;
+  accepted = says.accepted;
+  polled = says.polled;
+  begun = says.begun;
 }

@@ -19,7 +19,7 @@ use Rattle.kl_core.specs.declared.refusal.Refusal.{Refusal}
 use Rattle.kl_core.specs.declared.refusal.Refusal.TheVariants.{NoAgent, Exists, AgentsFull, WrongState, Busy, NoPoll, NoRelease, JournalRecords, JournalBytes, Memory}
 use Rattle.kl_core.specs.Begins.{IsPolled, MayPoll, RefusesBegin, Begins}
 use Rattle.kl_core.specs.Inner.Keeping.{Says, IsEntry, HasEntry, IsOpening, HasOpening, terms_at}
-use Rattle.kl_core.specs.Inner.Steps.{live_op, op_of, Lacks}
+use Rattle.kl_core.specs.Inner.Steps.{latest_poll, live_op, op_of, Lacks}
 
 passing : (o : Option Passing) → is_some (option_map (λ (p : Passing). p.poll) o) ≡ true → (p : Passing) × (o ≡ Some p)
 passing (Some p) is = (p, refl)
@@ -104,7 +104,7 @@ kept_installed H past a None is = ap is_some (sym is)
 kept_installed H past a (Some e) is = ap is_some (sym is.says.terms_are)
 
 -- ---- whether an agent may be polled
-pub polled_now : (H : History) (past : Past) (a : List ℕ) (e : Entry) (p : ℕ) → IsEntry H past a e → e.end ≡ None → e.latest ≡ Some p → is_open past p ≡ true → IsPolled past a p
+pub polled_now : (H : History) (past : Past) (a : List ℕ) (e : Entry) (p : ℕ) → IsEntry H past a e → e.end ≡ None → latest_poll e ≡ Some p → is_open past p ≡ true → IsPolled past a p
 polled_now H past a e p entry live latest opened =
     let poll = entry.latest_is_its p latest in (
       record { generation = e.generation; terms = entry.with },
@@ -113,7 +113,7 @@ polled_now H past a e p entry live latest opened =
       record { started = poll.started; began = poll.began; agent = poll.agent; generation = poll.generation; unclosed = opened },
     )
 
-pub idle_now : (H : History) (past : Past) (a : List ℕ) (e : Entry) → IsEntry H past a e → ((p : ℕ) → e.latest ≡ Some p → is_open past p ≡ false) → (q : ℕ) → ¬ (IsBusy past a e.generation q)
+pub idle_now : (H : History) (past : Past) (a : List ℕ) (e : Entry) → IsEntry H past a e → ((p : ℕ) → latest_poll e ≡ Some p → is_open past p ≡ false) → (q : ℕ) → ¬ (IsBusy past a e.generation q)
 idle_now H past a e entry closed q busy = both_ways (is_open past q) (closed q (entry.busy_is_latest q busy)) busy.unclosed
 
 pub may_poll : (H : History) (past : Past) (a : List ℕ) (e : Entry) → IsEntry H past a e → e.end ≡ None → ((q : ℕ) → ¬ (IsBusy past a e.generation q)) → MayPoll past a

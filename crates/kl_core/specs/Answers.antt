@@ -1,6 +1,5 @@
 -- That a call has one answer, unless memory runs out.
 use Rattle.std.specs.Prelude.{◌≡◌, ◌≢◌, Result, Ok, Err, ⊤}
-use Rattle.kl_history.specs.Records.{Past}
 use Rattle.kl_core.specs.declared.refusal.Refusal.{Refusal}
 use Rattle.kl_core.specs.declared.refusal.Refusal.TheVariants.{Memory}
 
@@ -18,6 +17,6 @@ IsAmpleWith (Err e) = e.0 ≢ Memory
 abbrev pub IsAny : {A : Type 0} → A → Type 0
 IsAny a = ⊤
 
--- behind these records a call gives one answer of this kind at most
-abbrev pub IsOneAnswer : {A : Type 0} → (A → Type 0) → (A → Past → Type 0) → Past → Type 0
-IsOneAnswer {A} IsOfKind Answers past = (x y : A) → Answers x past → Answers y past → IsOfKind x → IsOfKind y → x ≡ y
+-- behind these records, or what else it found, a call gives one answer of this kind at most
+abbrev pub IsOneAnswer : {A Found : Type 0} → (A → Type 0) → (A → Found → Type 0) → Found → Type 0
+IsOneAnswer {A} IsOfKind Answers found = (x y : A) → Answers x found → Answers y found → IsOfKind x → IsOfKind y → x ≡ y

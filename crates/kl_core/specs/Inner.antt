@@ -1,3 +1,6 @@
 -- What models and private contracts alone cite.
 pub mod Keeping
 pub mod Steps
+pub mod Closing
+pub mod Picking
+pub mod Failing

@@ -1,3 +1,4 @@
+pub mod Books
 pub mod Desk
 pub mod Tickets
 pub mod Installs
@@ -5,6 +6,8 @@ pub mod Endings
 pub mod Begins
 pub mod Closes
 pub mod States
+pub mod Picks
+pub mod Delivering
 pub mod Whole
 pub mod Answers
 pub mod Texts

@@ -1,14 +1,15 @@
 //! What is kept of installed agents, changed at one of them.
 
-ghost use Rattle.std.specs.Prelude.{◌≡◌, ◌+◌, Some, None, IsSome, IfSome, OnOk, OnErr};
+ghost use Rattle.std.specs.Prelude.{◌≡◌, ◌+◌, ◌<◌, Some, None, IsSome, IfSome, OnOk, OnErr};
 ghost use Rattle.std.specs.Option.{option_map};
 ghost use Rattle.std.specs.Ordering.{nat_cmp};
 ghost use Rattle.std.specs.Cmp.Lexicographic.{slice_cmp};
 ghost use Rattle.std.specs.BTreeMap.{get, btree_map_len, Updates, IsUnchanged};
-ghost use Rattle.kl_core.specs.Inner.Steps.{fresh, found, op_of, NotedIf};
+ghost use Rattle.kl_core.specs.Inner.Steps.{fresh, op_of, NotedIf};
+ghost use Rattle.kl_core.specs.Inner.Closing.{after_close};
 
+use crate::closing::Close;
 use crate::entry::Entry;
-use kl_incr::Outcome as Finding;
 use kl_policy::Memory;
 use kl_states::{AgentId, Op};
 use std::collections::BTreeMap;
@@ -80,12 +81,13 @@ pub fn note_if(agents: &mut BTreeMap<AgentId, Entry>, agent: &AgentId, entry: Op
     }
 }
 
-/// What is kept of an agent after a finding, where that is current.
-pub fn found_if(entry: Option<Entry>, poll: u64, finding: Finding, accepted: u64) -> Option<Entry>
-    ensures { result ≡ option_map (found poll finding accepted) entry }
+/// What is kept of an agent after a close, where that is current.
+pub fn closed_if(entry: Option<Entry>, poll: u64, by: &Close) -> Option<Entry>
+    requires { IfSome entry (λ e. e.losses < 5) }
+    ensures { result ≡ option_map (after_close poll by.now) entry }
 {
     match entry {
-        Some(entry) => Some(entry.found(poll, finding, accepted)),
+        Some(entry) => Some(by.entry_after(poll, entry)),
         None => None,
     }
 }

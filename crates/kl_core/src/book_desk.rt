@@ -8,8 +8,9 @@ use crate::desk::Desk;
 use crate::refusal::Refusal;
 use kl_appraise::Terms;
 use kl_incr::{Appraised, Ticket};
+use kl_notice::Notice;
 use kl_policy::Policy;
-use kl_states::{AgentId, DropWhy, Nonce, State};
+use kl_states::{AgentId, DropWhy, LostWhy, Nonce, State};
 use std::alloc::Global;
 
 impl Desk for Book {
@@ -73,6 +74,12 @@ impl Desk for Book {
         answer
     }
 
+    fn lose(&mut self, ticket: Ticket, why: LostWhy) -> Result<Closed, (Refusal, Ticket)> {
+        let answer = Book::lose(self, ticket, why);
+        let _len = self.len();
+        answer
+    }
+
     fn drop_poll(&mut self, ticket: Ticket, why: DropWhy) -> Result<Closed, (Refusal, Ticket)> {
         let answer = Book::drop_poll(self, ticket, why);
         let _len = self.len();
@@ -85,6 +92,12 @@ impl Desk for Book {
         answer
     }
 
+    fn lose_own(&mut self, ticket: Ticket, why: LostWhy) -> Result<Closed, (Refusal, Ticket)> {
+        let answer = Book::lose_own(self, ticket, why);
+        let _len = self.len();
+        answer
+    }
+
     fn drop_own(&mut self, ticket: Ticket, why: DropWhy) -> Result<Closed, (Refusal, Ticket)> {
         let answer = Book::drop_own(self, ticket, why);
         let _len = self.len();
@@ -93,6 +106,24 @@ impl Desk for Book {
 
     fn state(&mut self, agent: &AgentId) -> Option<State> {
         let answer = Book::state(self, agent);
+        let _len = self.len();
+        answer
+    }
+
+    fn pick(&mut self, now: u64) -> Option<AgentId> {
+        let answer = Book::pick(self, now);
+        let _len = self.len();
+        answer
+    }
+
+    fn next_notice(&mut self) -> Option<Notice> {
+        let answer = Book::next_notice(self);
+        let _len = self.len();
+        answer
+    }
+
+    fn mark_delivered(&mut self, number: u64) -> bool {
+        let answer = Book::mark_delivered(self, number);
         let _len = self.len();
         answer
     }

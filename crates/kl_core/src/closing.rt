@@ -1,17 +1,104 @@
-//! The record of a poll that is closed by a finding, and what it weighs.
+//! What closes a poll, and what follows of it.
 
-ghost use Rattle.std.specs.Prelude.{◌≡◌, ◌≤◌};
+ghost use Rattle.std.specs.Prelude.{◌≡◌, ◌≤◌, ◌<◌};
 ghost use Rattle.kl_quote.specs.Size.{total_bytes};
 ghost use Rattle.kl_appraise.specs.Kept.{from_of};
 ghost use Rattle.kl_core.specs.Closes.{closed_by, record_by};
+ghost use Rattle.kl_core.specs.Inner.Closing.{close_as, close_why, close_record, close_weight, after_close};
 
 use crate::closed::ClosedAs;
+use crate::entry::Entry;
 use kl_history::Record;
 use kl_incr::{Kept, Outcome as Finding};
+use kl_notice::FailWhy;
 use kl_quote::Evidence;
+use kl_states::{DropWhy, LostWhy};
+
+/// What closes a poll.
+#[derive(Drop)]
+pub enum Close {
+    /// What the appraisal of its evidence found, and what is kept of the list that it accepts.
+    Found {
+        evidence: Evidence,
+        signed: bool,
+        finding: Finding,
+        next: Option<Kept>,
+    },
+    /// No evidence came back.
+    Lost(LostWhy),
+    /// It counts neither for nor against its agent.
+    Dropped(DropWhy),
+}
+
+impl Close {
+    /// By what it closes a poll, in short.
+    pub fn as_what(&self) -> ClosedAs
+        ensures { result ≡ close_as self.now }
+    {
+        match self {
+            Close::Found { finding, .. } => closed_by(*finding),
+            Close::Lost(why) => ClosedAs::Lost(*why),
+            Close::Dropped(why) => ClosedAs::Dropped(*why),
+        }
+    }
+
+    /// Why the agent fails, where it fails by this.
+    pub fn why(&self) -> Option<FailWhy>
+        ensures { result ≡ close_why self.now }
+    {
+        match self {
+            Close::Found {
+                finding: Finding::Verdict(verdict),
+                ..
+            } => Some(FailWhy::Verdict(*verdict)),
+            Close::Lost(_) => Some(FailWhy::Losses),
+            _ => None,
+        }
+    }
+
+    /// How many bytes its record weighs.
+    pub fn weight(&self) -> u64
+        ensures bytes { result ≡ close_weight self.now }
+        ensures most { result ≤ 16777216 }
+    {
+        match self {
+            Close::Found { evidence, .. } => weight_of(evidence),
+            Close::Lost(_) => 0,
+            Close::Dropped(_) => 0,
+        }
+    }
+
+    /// What is kept of an agent once it closed a poll that is current.
+    pub fn entry_after(&self, poll: u64, entry: Entry) -> Entry
+        requires { entry.losses < 5 }
+        ensures { result ≡ after_close poll self.now entry }
+    {
+        match self {
+            Close::Found { finding, next, .. } => entry.found(poll, *finding, accepted_by(*next)),
+            Close::Lost(_) => entry.lost(),
+            Close::Dropped(_) => entry,
+        }
+    }
+
+    /// The record of a poll that it closes.
+    pub fn into_record(self, poll: u64, current: bool) -> Record
+        ensures { result ≡ close_record poll self current }
+    {
+        match self {
+            Close::Found {
+                evidence,
+                signed,
+                finding,
+                next: _,
+            } => record_by(poll, evidence, signed, finding, current),
+            Close::Lost(why) => Record::Lost { poll, why, current },
+            Close::Dropped(why) => Record::Dropped { poll, why },
+        }
+    }
+}
 
 /// By what a finding closes a poll.
-pub fn closed_by(finding: Finding) -> ClosedAs
+fn closed_by(finding: Finding) -> ClosedAs
     ensures { result ≡ closed_by finding }
 {
     match finding {
@@ -21,13 +108,7 @@ pub fn closed_by(finding: Finding) -> ClosedAs
 }
 
 /// The record of a poll that was closed by a finding.
-pub fn record_by(
-    poll: u64,
-    evidence: Evidence,
-    signed: bool,
-    finding: Finding,
-    current: bool,
-) -> Record
+fn record_by(poll: u64, evidence: Evidence, signed: bool, finding: Finding, current: bool) -> Record
     ensures { result ≡ record_by poll evidence signed finding current }
 {
     match finding {
@@ -48,7 +129,7 @@ pub fn record_by(
 }
 
 /// How many bytes evidence weighs.
-pub fn weight_of(evidence: &Evidence) -> u64
+fn weight_of(evidence: &Evidence) -> u64
     ensures bytes { result ≡ total_bytes evidence.now.bank evidence.now.public evidence.now.quote evidence.now.list }
     ensures most { result ≤ 16777216 }
 {
@@ -59,7 +140,7 @@ pub fn weight_of(evidence: &Evidence) -> u64
 }
 
 /// How many entries are accepted by what is kept of an accepted list.
-pub fn accepted_by(kept: Option<Kept>) -> u64
+fn accepted_by(kept: Option<Kept>) -> u64
     ensures { result ≡ from_of kept }
 {
     match kept {

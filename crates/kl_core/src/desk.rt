@@ -1,20 +1,23 @@
 //! What agents are installed and polled at.
 
 ghost use Rattle.kl_history.specs.Records.{past_of};
-ghost use Rattle.kl_core.specs.Desk.{Told, Calls, nothing};
+ghost use Rattle.kl_core.specs.Desk.{Told, Calls, nothing, Marks};
 ghost use Rattle.kl_core.specs.Tickets.{IsGiven};
 ghost use Rattle.kl_core.specs.Installs.{Adds, add_makes, Replaces, replace_makes, Reactivates, reactivate_makes};
 ghost use Rattle.kl_core.specs.Endings.{Stops, stop_makes, Removes, remove_makes};
 ghost use Rattle.kl_core.specs.Begins.{BeginAnswers, begin_makes};
-ghost use Rattle.kl_core.specs.Closes.{OwnFinishes, Finishes, finish_makes, OwnDrops, Drops, drop_makes};
+ghost use Rattle.kl_core.specs.Closes.{OwnFinishes, Finishes, finish_makes, OwnLoses, Loses, lose_makes, OwnDrops, Drops, drop_makes};
 ghost use Rattle.kl_core.specs.States.{StateAnswers};
+ghost use Rattle.kl_core.specs.Picks.{PickAnswers};
+ghost use Rattle.kl_core.specs.Delivering.{NoticeAnswers, MarkAnswers, marks_of};
 
 use crate::closed::Closed;
 use crate::refusal::Refusal;
 use kl_appraise::Terms;
 use kl_incr::{Appraised, Ticket};
+use kl_notice::Notice;
 use kl_policy::Policy;
-use kl_states::{AgentId, DropWhy, Nonce, State};
+use kl_states::{AgentId, DropWhy, LostWhy, Nonce, State};
 use std::alloc::Global;
 
 /// A desk, over a history of its own or over one that others add to as well.
@@ -23,7 +26,8 @@ use std::alloc::Global;
 /// makes one. Its answer is of the records that it found. The history is legal after each call. A refused call
 /// makes no record and hands back what it took.
 pub trait Desk {
-    /// The history as it is known here, and the places of the records that calls here made.
+    /// The history as it is known here, the places of the records that calls here made, and how many notices are known here to
+    /// be delivered.
     ghost told: { Self → Told };
 
     /// Installs an agent, and answers its generation.
@@ -87,6 +91,13 @@ pub trait Desk {
     fn finish(&mut self, done: Appraised) -> Result<Closed, (Refusal, Appraised)>
         ensures event { Calls (told self.old) (told self.new) (finish_makes done result) (Finishes done result) };
 
+    /// Closes a poll of which no evidence came back. It takes no memory.
+    ///
+    /// # Errors
+    /// `NoPoll` where the ticket is not the one that the begin of an open poll gave, compared by value.
+    fn lose(&mut self, ticket: Ticket, why: LostWhy) -> Result<Closed, (Refusal, Ticket)>
+        ensures event { Calls (told self.old) (told self.new) (lose_makes ticket why result) (Loses ticket why result) };
+
     /// Closes a poll without counting it for or against its agent. It takes no memory.
     ///
     /// # Errors
@@ -102,6 +113,14 @@ pub trait Desk {
         requires given { IsGiven (past_of (told self.old).seen) done.ticket }
         ensures event { Calls (told self.old) (told self.new) (finish_makes done result) (OwnFinishes done result) };
 
+    /// [`lose`](Desk::lose) with a ticket that was given at this desk: nothing is compared.
+    ///
+    /// # Errors
+    /// `NoPoll` where the poll is not open any more.
+    fn lose_own(&mut self, ticket: Ticket, why: LostWhy) -> Result<Closed, (Refusal, Ticket)>
+        requires given { IsGiven (past_of (told self.old).seen) ticket }
+        ensures event { Calls (told self.old) (told self.new) (lose_makes ticket why result) (OwnLoses ticket why result) };
+
     /// [`drop_poll`](Desk::drop_poll) with a ticket that was given at this desk: nothing is compared.
     ///
     /// # Errors
@@ -113,4 +132,18 @@ pub trait Desk {
     /// How an agent stands, None where no such agent is installed. It takes no memory.
     fn state(&mut self, agent: &AgentId) -> Option<State>
         ensures event { Calls (told self.old) (told self.new) nothing (StateAnswers agent.now result) };
+
+    /// The agent that is polled next at a moment, in milliseconds, None where none waits. Of the agents that may be polled and
+    /// are due it is the one that is due longest, and of these the first by name. It takes no memory.
+    fn pick(&mut self, now: u64) -> Option<AgentId>
+        ensures event { Calls (told self.old) (told self.new) nothing (PickAnswers now result) };
+
+    /// The first notice that is not delivered, None where all are. It takes no memory.
+    fn next_notice(&mut self) -> Option<Notice>
+        ensures event { Marks (told self.old) (told self.new) 0 (NoticeAnswers result) };
+
+    /// Marks the first notice that is not delivered as delivered, where it has this number, and answers whether it has. It
+    /// takes no memory.
+    fn mark_delivered(&mut self, number: u64) -> bool
+        ensures event { Marks (told self.old) (told self.new) (marks_of result) (MarkAnswers number result) };
 }

@@ -1,10 +1,18 @@
 //! What a book keeps beside its records.
 
-ghost use Rattle.std.specs.Prelude.{◌≡◌};
-ghost use Rattle.kl_core.specs.Inner.Steps.{fresh, stopped, polled, found, live_op, op_of};
+ghost use Rattle.std.specs.Prelude.{◌≡◌, ◌*◌, ◌^◌, ◌<◌, min};
+ghost use Rattle.kl_history.specs.Notices.{has_failed};
+ghost use Rattle.kl_core.specs.Inner.Steps.{fresh, stopped, polled, lost, found, live_op, op_of};
+ghost use Rattle.kl_core.specs.Inner.Picking.{due_of};
 
 use kl_incr::Outcome as Finding;
 use kl_states::{AgentId, Nonce, Op, Verdict};
+
+/// With so many losses in a row an agent has failed.
+const FAILING_LOSSES: u64 = 5;
+
+/// How long an agent waits for its next poll where none was lost, in milliseconds; each loss doubles it.
+const FIRST_WAIT: u64 = 2_000;
 
 /// What is kept of an installed agent, since it was installed.
 #[derive(Clone, Copy)]
@@ -17,14 +25,23 @@ pub struct Entry {
     pub has_v: bool,
     /// The state in which it is not live any more, where it is in one.
     pub end: Option<Op>,
-    /// How many polls were lost since the last verdict.
+    /// How many polls were lost in a row since the last finding.
     pub losses: u64,
     /// The poll of the last finding, where that is a pass.
     pub pass: Option<u64>,
     /// How many entries of its measurement list are accepted.
     pub accepted: u64,
     /// Its last poll, open or not.
-    pub latest: Option<u64>,
+    pub latest: Option<Begun>,
+}
+
+/// A poll that began.
+#[derive(Clone, Copy)]
+pub struct Begun {
+    /// Its number.
+    pub poll: u64,
+    /// The moment, in milliseconds.
+    pub at: u64,
 }
 
 /// What an open poll was begun with.
@@ -38,6 +55,13 @@ pub struct Opening {
     pub nonce: Nonce,
     /// The place of the record that installed the generation.
     pub place: usize,
+}
+
+/// How long an agent waits for its next poll after so many losses in a row, in milliseconds.
+fn wait_after(losses: u64) -> u64
+    ensures { result ≡ 2000 * 2 ^ min losses 5 }
+{
+    FIRST_WAIT << losses.min(FAILING_LOSSES)
 }
 
 impl Entry {
@@ -90,12 +114,42 @@ impl Entry {
         entry
     }
 
-    /// What is kept once a poll of the agent began.
-    pub fn polled(&self, poll: u64) -> Entry
-        ensures { result ≡ polled poll self.now }
+    /// The moment from which the agent is due to be polled, in milliseconds.
+    pub fn due(&self) -> u64
+        ensures { result ≡ due_of self.now }
+    {
+        match self.latest {
+            Some(begun) => begun.at.saturating_add(wait_after(self.losses)),
+            None => 0,
+        }
+    }
+
+    /// Whether the agent has failed.
+    pub fn has_failed(&self) -> bool
+        ensures { result ≡ has_failed self.now.end }
+    {
+        matches!(self.end, Some(Op::Failed | Op::InvalidQuote))
+    }
+
+    /// What is kept once a poll of the agent began at a moment.
+    pub fn polled(&self, poll: u64, at: u64) -> Entry
+        ensures { result ≡ polled poll at self.now }
     {
         let mut entry = *self;
-        entry.latest = Some(poll);
+        entry.latest = Some(Begun { poll, at });
+        entry
+    }
+
+    /// What is kept after a current loss.
+    pub fn lost(&self) -> Entry
+        requires { self.now.losses < 5 }
+        ensures { result ≡ lost self.now }
+    {
+        let mut entry = *self;
+        entry.losses += 1;
+        if entry.losses == FAILING_LOSSES {
+            entry.end = Some(Op::Failed);
+        }
         entry
     }
 

@@ -11,7 +11,9 @@ mod closed;
 mod closing;
 mod desk;
 mod entry;
+mod failing;
 mod openings;
+mod picking;
 mod refusal;
 #[cfg(test)]
 mod tests;
@@ -22,4 +24,5 @@ pub use closed::{Closed, ClosedAs};
 pub use desk::Desk;
 pub use kl_history::{InstallWhy, Record};
 pub use kl_incr::{Appraised, Kept, Outcome as Finding, Parts, Ticket};
+pub use kl_notice::{FailWhy, Notice};
 pub use refusal::Refusal;

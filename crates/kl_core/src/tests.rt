@@ -5,7 +5,7 @@ use crate::*;
 use kl_appraise::{SharedTerms, Terms};
 use kl_bank::Bank;
 use kl_policy::{Policy, read_flat};
-use kl_states::{AgentId, DropWhy, Nonce, Op};
+use kl_states::{AgentId, DropWhy, LostWhy, Nonce, Op};
 use std::alloc::Global;
 use std::mem::size_of;
 use std::test::*;
@@ -94,6 +94,45 @@ fn dropped(book: &mut Book, ticket: Ticket) -> Result<Closed, Refusal> {
     }
 }
 
+/// A ticket for a poll of an agent that begins at a moment.
+fn polled(book: &mut Book, number: u64, at: u64) -> Result<Ticket, Fail> {
+    match book.begin(&agent(number)?, nonce(b"n1")?, at) {
+        Ok(ticket) => Ok(ticket),
+        Err(_) => Err(Fail::from("the agent may be polled")),
+    }
+}
+
+/// The state of an agent once a poll of it that began at a moment was lost.
+fn lost(book: &mut Book, number: u64, at: u64) -> Result<Option<Op>, Fail> {
+    let ticket = polled(book, number, at)?;
+    match book.lose(ticket, LostWhy::Named) {
+        Ok(closed) => Ok(closed.op),
+        Err((_why, ticket)) => {
+            ticket.discard();
+            Err(Fail::from("the poll is open"))
+        },
+    }
+}
+
+/// The number of the next notice, 0 where there is none.
+fn next_number(book: &Book) -> u64 {
+    match book.next_notice() {
+        Some(notice) => notice.number,
+        None => 0,
+    }
+}
+
+/// The number of the agent that is picked, of so many; 0 where none is.
+fn picked(book: &Book, most: u64, now: u64) -> Result<u64, Fail> {
+    let picked = book.pick(now);
+    for number in 1..=most {
+        if picked == Some(agent(number)?) {
+            return Ok(number);
+        }
+    }
+    Ok(0)
+}
+
 #[test]
 fn the_65th_poll_has_no_room_for_its_evidence(rt: HostRuntime) -> Result<(), Fail> {
     let alloc = rt.alloc();
@@ -144,7 +183,7 @@ fn a_journal_takes_1000000_records(rt: HostRuntime) -> Result<(), Fail> {
 fn agents_polls_and_records_have_the_sizes_that_bench_tells(rt: HostRuntime) -> Result<(), Fail> {
     let agent = size_of::<AgentId>() + size_of::<Entry>();
     let poll = size_of::<u64>() + size_of::<Opening>();
-    assert_eq!(rt; (agent, poll, size_of::<Record>()), (144, 168, 184));
+    assert_eq!(rt; (agent, poll, size_of::<Record>()), (152, 168, 184));
     Ok(())
 }
 
@@ -240,6 +279,92 @@ fn an_agent_is_polled_stopped_replaced_and_removed(rt: HostRuntime) -> Result<()
             .state(&agent(1)?)
             .map(|state| (state.op, state.generation));
         assert_eq!(rt; state, wanted);
+    }
+    Ok(())
+}
+
+#[test]
+fn the_fifth_loss_in_a_row_fails_an_agent_and_is_told(rt: HostRuntime) -> Result<(), Fail> {
+    let alloc = rt.alloc();
+    let mut book = book(alloc)?;
+    let _generation = added(&mut book, alloc, 1)?;
+    for (wanted, told) in [
+        (Op::GetQuoteRetry, 0),
+        (Op::GetQuoteRetry, 0),
+        (Op::GetQuoteRetry, 0),
+        (Op::GetQuoteRetry, 0),
+        (Op::Failed, 1),
+    ] {
+        let state = lost(&mut book, 1, 0)?;
+        assert_eq!(rt; (state, next_number(&book)), (Some(wanted), told));
+    }
+    assert_eq!(rt; begun(&mut book, 1)?, Err(Refusal::WrongState(Op::Failed)));
+    assert_eq!(rt; book.reactivate(&agent(1)?), Ok(2));
+    Ok(())
+}
+
+#[test]
+fn each_loss_doubles_how_long_an_agent_waits(rt: HostRuntime) -> Result<(), Fail> {
+    let alloc = rt.alloc();
+    let mut book = book(alloc)?;
+    let _generation = added(&mut book, alloc, 1)?;
+    assert_eq!(rt; picked(&book, 1, 0)?, 1);
+    for (at, due) in [
+        (5_000, 9_000),
+        (10_000, 18_000),
+        (100_000, 116_000),
+        (u64::MAX - 1, u64::MAX),
+    ] {
+        let _state = lost(&mut book, 1, at)?;
+        assert_eq!(rt;
+            (picked(&book, 1, due - 1)?, picked(&book, 1, due)?),
+            (0, 1)
+        );
+    }
+    Ok(())
+}
+
+#[test]
+fn who_is_due_longest_is_picked_and_then_by_name(rt: HostRuntime) -> Result<(), Fail> {
+    let alloc = rt.alloc();
+    let mut book = book(alloc)?;
+    for number in 1..=3 {
+        let _generation = added(&mut book, alloc, number)?;
+    }
+    let _state = lost(&mut book, 1, 5_000)?;
+    for number in 2..=3 {
+        let ticket = polled(&mut book, number, 5_000)?;
+        let _closed = dropped(&mut book, ticket);
+    }
+    for (now, wanted) in [(6_999, 0), (7_000, 2), (9_000, 2)] {
+        assert_eq!(rt; picked(&book, 3, now)?, wanted);
+    }
+    for (number, wanted) in [(2, 3), (3, 1), (1, 0)] {
+        polled(&mut book, number, 9_000)?.discard();
+        assert_eq!(rt; picked(&book, 3, 9_000)?, wanted);
+    }
+    Ok(())
+}
+
+#[test]
+fn notices_are_delivered_in_order(rt: HostRuntime) -> Result<(), Fail> {
+    let alloc = rt.alloc();
+    let mut book = book(alloc)?;
+    for number in 1..=2 {
+        let _generation = added(&mut book, alloc, number)?;
+        for _ in 0..5 {
+            let _state = lost(&mut book, number, 0)?;
+        }
+    }
+    for (number, marked, then) in [
+        (2, false, 1),
+        (1, true, 2),
+        (1, false, 2),
+        (2, true, 0),
+        (3, false, 0),
+    ] {
+        let answer = book.mark_delivered(number);
+        assert_eq!(rt; (answer, next_number(&book)), (marked, then));
     }
     Ok(())
 }

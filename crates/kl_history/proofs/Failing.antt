@@ -9,12 +9,15 @@ use Rattle.std.proofs.lemmas.Option.{same_Some, none-some}
 use Rattle.kl_states.specs.declared.op.Op.{Op}
 use Rattle.kl_states.specs.declared.op.Op.TheVariants as op
 use Rattle.kl_states.specs.declared.outcome.Outcome.TheVariants as outcome
+use Rattle.kl_notice.specs.declared.notice.Notice.{Notice}
+use Rattle.kl_notice.specs.declared.notice.FailWhy.{FailWhy}
+use Rattle.kl_notice.specs.declared.notice.FailWhy.TheVariants as failed_by
 use Rattle.kl_history.specs.declared.record.Record.{Record}
 use Rattle.kl_history.specs.declared.record.Record.TheVariants.{Install, Verdict, Restart, Lost, Settled, Stop}
 use Rattle.kl_history.specs.Records.{History, Past, past_of, Start, Handing, is_release_of, belongs, own}
 use Rattle.kl_history.specs.LookBacks.{Installed, installed, came, losses, missed}
 use Rattle.kl_history.specs.States.{ended, is_stop, is_invalid, is_failed, is_live}
-use Rattle.kl_history.specs.Notices.{Why, ByVerdict, ByLosses, ByDeliveries, Failure, blames, has_failed, failed_by, failure, NoticeFields, with_failure, notices_of, notices}
+use Rattle.kl_history.specs.Notices.{Failure, blames, has_failed, downfall, failure, told_by, with_failure, notices_of, notices}
 use Rattle.kl_history.specs.Laws.{before, counts_for_nothing, failure_at, BringsDown, is_current_end, TellFailures}
 use Rattle.kl_history.proofs.Places.{some_within, before_next}
 use Rattle.kl_history.proofs.OwnRecords.{poll_begun, release_made, own-yes, own-no}
@@ -40,7 +43,7 @@ not_down past r a same = λ down. false≢true (ap has_failed (sym (same ∙ liv
 
 -- ---- a failure brings its agent down
 
-failed_parts : (a : List ℕ) (why : Why) (old new : Past) (f : Failure) → failed_by a why old new ≡ Some f → (is_live old ≡ true) × (has_failed (ended new) ≡ true) × (f.agent ≡ a)
+failed_parts : (a : List ℕ) (why : FailWhy) (old new : Past) (f : Failure) → downfall a why old new ≡ Some f → (is_live old ≡ true) × (has_failed (ended new) ≡ true) × (f.agent ≡ a)
 failed_parts a why old new f is = by_case (is_live old && has_failed (ended new)) refl is where
   by_installed : (o : Option Installed) → option_map (λ (i : Installed). record { agent = a; generation = i.generation; why = why }) o ≡ Some f → f.agent ≡ a
   by_installed None same = absurd (none-some f same)
@@ -53,7 +56,7 @@ failed_parts a why old new f is = by_case (is_live old && has_failed (ended new)
 
 failure_down : (past : Past) (r : Record) (f : Failure) → failure past r ≡ Some f → BringsDown past r f.agent
 failure_down past r f is = by_case (blames past r) is where
-  by_case : (o : Option (List ℕ × Why)) → elim o [ None ↦ None | Some b ↦ failed_by b.0 b.1 (own past b.0) (own (r ∷ past) b.0) ] ≡ Some f → BringsDown past r f.agent
+  by_case : (o : Option (List ℕ × FailWhy)) → elim o [ None ↦ None | Some b ↦ downfall b.0 b.1 (own past b.0) (own (r ∷ past) b.0) ] ≡ Some f → BringsDown past r f.agent
   by_case None same = absurd (none-some f same)
   by_case (Some b) same =
       let parts = failed_parts b.0 b.1 (own past b.0) (own (r ∷ past) b.0) f same in
@@ -69,7 +72,7 @@ arrival_down past n a = elim (cases_Bool (is_release_of past a n)) [
   | inr other ↦ not_down past (Settled n outcome.Arrived false) a ((count_for_nothing past a).of_others (Settled n outcome.Arrived false) other).kept.over
 ]
 
-failure_current : (past : Past) (r : Record) (f : Failure) → failure past r ≡ Some f → is_current_end r ≡ true
+pub failure_current : (past : Past) (r : Record) (f : Failure) → failure past r ≡ Some f → is_current_end r ≡ true
 failure_current past (Verdict p e s v true) f is = refl
 failure_current past (Lost p w true) f is = refl
 failure_current past (Settled n o true) f is = refl
@@ -94,24 +97,24 @@ none_ended false false false false false is = refl
 
 -- the reason that a record which brings an agent down gives
 down_why : (r : Record) (past : Past) (a : List ℕ) → belongs past a r ≡ true → ended (own past a) ≡ None → has_failed (ended (r ∷ own past a)) ≡ true
-    → (w : Why) × (blames past r ≡ Some (a, w)) × (installed (r ∷ own past a) ≡ installed (own past a))
+    → (w : FailWhy) × (blames past r ≡ Some (a, w)) × (installed (r ∷ own past a) ≡ installed (own past a))
 down_why (Install b g t w) past a is none failed = absurd (false≢true failed)
 down_why (Verdict p e s v c) past a is none failed =
     let begun = poll_begun past a p is in
-    (ByVerdict v, ap (option_map (λ (b : Start). (b.agent, ByVerdict v))) begun.1 ∙ ap (λ x. Some (x, ByVerdict v)) begun.2, refl)
+    (failed_by.Verdict v, ap (option_map (λ (b : Start). (b.agent, failed_by.Verdict v))) begun.1 ∙ ap (λ x. Some (x, failed_by.Verdict v)) begun.2, refl)
 down_why (Lost p w c) past a is none failed =
     let begun = poll_begun past a p is in
-    (ByLosses, ap (option_map (λ (b : Start). (b.agent, ByLosses))) begun.1 ∙ ap (λ x. Some (x, ByLosses)) begun.2, refl)
+    (failed_by.Losses, ap (option_map (λ (b : Start). (b.agent, failed_by.Losses))) begun.1 ∙ ap (λ x. Some (x, failed_by.Losses)) begun.2, refl)
 down_why (Settled n o c) past a is none failed =
     let made = release_made past a n is in
-    (ByDeliveries, ap (option_map (λ (h : Handing). (h.agent, ByDeliveries))) made.1 ∙ ap (λ x. Some (x, ByDeliveries)) made.2, refl)
+    (failed_by.Undelivered, ap (option_map (λ (h : Handing). (h.agent, failed_by.Undelivered))) made.1 ∙ ap (λ x. Some (x, failed_by.Undelivered)) made.2, refl)
 down_why (Restart p e s true) past a is none failed =
     let o = own past a in
     absurd (false≢true (sym (none_ended (came is_stop o) (came is_invalid o) (came is_failed o) (eqb (losses o) 5) (eqb (missed o) 5) none) ∙ failed))
 down_why (Stop b) past a is none failed = absurd (false≢true failed)
 down_why _ past a is none failed = absurd (false≢true (ap has_failed (sym none) ∙ failed))
 
-failed_from : (a : List ℕ) (why : Why) (old new : Past) (i : Installed) → is_live old ≡ true → has_failed (ended new) ≡ true → installed new ≡ Some i → failed_by a why old new ≡ Some (record { agent = a; generation = i.generation; why = why })
+failed_from : (a : List ℕ) (why : FailWhy) (old new : Past) (i : Installed) → is_live old ≡ true → has_failed (ended new) ≡ true → installed new ≡ Some i → downfall a why old new ≡ Some (record { agent = a; generation = i.generation; why = why })
 failed_from a why old new i live failed inst =
     cond-true (is_live old && has_failed (ended new)) _ None (and_from (is_live old) (has_failed (ended new)) live failed)
     ∙ ap (option_map (λ (x : Installed). record { agent = a; generation = x.generation; why = why })) inst
@@ -130,8 +133,8 @@ down_failure past r a down = elim (cases_Bool (belongs past a r)) [
   | inr other ↦ absurd (not_down past r a (ap ended (own-no r past a other)) down)
 ]
   where
-    by_why : (w : Why) → blames past r ≡ Some (a, w) → failure past r ≡ failed_by a w (own past a) (own (r ∷ past) a)
-    by_why w same = ap (λ (o : Option (List ℕ × Why)). elim o [ None ↦ None | Some b ↦ failed_by b.0 b.1 (own past b.0) (own (r ∷ past) b.0) ]) same
+    by_why : (w : FailWhy) → blames past r ≡ Some (a, w) → failure past r ≡ downfall a w (own past a) (own (r ∷ past) a)
+    by_why w same = ap (λ (o : Option (List ℕ × FailWhy)). elim o [ None ↦ None | Some b ↦ downfall b.0 b.1 (own past b.0) (own (r ∷ past) b.0) ]) same
 
 -- ---- the notices
 
@@ -140,30 +143,30 @@ failures_of : Past → List Failure
 failures_of [] = []
 failures_of (r ∷ past) = failures_of past ++ option_to_list (failure past r)
 
-told : (past : Past) → map (λ (n : NoticeFields). n.failure) (notices_of past) ≡ failures_of past
+told : (past : Past) → map told_by (notices_of past) ≡ failures_of past
 unfolding failures_of
 told [] = refl
 told (r ∷ past) = by_case (failure past r) (told past) where
-  by_case : (o : Option Failure) → map (λ (n : NoticeFields). n.failure) (notices_of past) ≡ failures_of past
-      → map (λ (n : NoticeFields). n.failure) (with_failure (notices_of past) o) ≡ failures_of past ++ option_to_list o
+  by_case : (o : Option Failure) → map told_by (notices_of past) ≡ failures_of past
+      → map told_by (with_failure (notices_of past) o) ≡ failures_of past ++ option_to_list o
   by_case None before = before ∙ sym (append-nil (failures_of past))
-  by_case (Some f) before = map-append (λ (n : NoticeFields). n.failure) (notices_of past) _ ∙ ap (λ l. l ++ f ∷ []) before
+  by_case (Some f) before = map-append told_by (notices_of past) _ ∙ ap (λ l. l ++ f ∷ []) before
 
 range_more : (a n : ℕ) → range_with_len a (suc n) ≡ range_with_len a n ++ (a + n) ∷ []
 range_more a zero = ap (λ k. k ∷ []) (omega arith)
 range_more a (suc n) =
     ap (λ l. a ∷ l) (range_more (a + 1) n ∙ ap (λ k. range_with_len (a + 1) n ++ k ∷ []) (let e : (a + 1) + n ≡ a + suc n = omega arith in e))
 
-counted : (past : Past) → map (λ (n : NoticeFields). n.number) (notices_of past) ≡ range_with_len 1 (length (notices_of past))
+counted : (past : Past) → map (λ (n : Notice). n.number) (notices_of past) ≡ range_with_len 1 (length (notices_of past))
 counted [] = refl
 counted (r ∷ past) = by_case (failure past r) (counted past) where
-  by_case : (o : Option Failure) → map (λ (n : NoticeFields). n.number) (notices_of past) ≡ range_with_len 1 (length (notices_of past))
-      → map (λ (n : NoticeFields). n.number) (with_failure (notices_of past) o) ≡ range_with_len 1 (length (with_failure (notices_of past) o))
+  by_case : (o : Option Failure) → map (λ (n : Notice). n.number) (notices_of past) ≡ range_with_len 1 (length (notices_of past))
+      → map (λ (n : Notice). n.number) (with_failure (notices_of past) o) ≡ range_with_len 1 (length (with_failure (notices_of past) o))
   by_case None before = before
   by_case (Some f) before =
       let len = length (notices_of past) in
       let more : length (with_failure (notices_of past) (Some f)) ≡ suc len = length-append (notices_of past) _ ∙ add-one len in
-      map-append (λ (n : NoticeFields). n.number) (notices_of past) _ ∙ ap (λ l. l ++ (len + 1) ∷ []) before
+      map-append (λ (n : Notice). n.number) (notices_of past) _ ∙ ap (λ l. l ++ (len + 1) ∷ []) before
       ∙ ap (λ k. range_with_len 1 len ++ k ∷ []) (let e : len + 1 ≡ 1 + len = omega arith in e) ∙ sym (range_more 1 len) ∙ ap (range_with_len 1) (sym more)
 
 by_places : (H : History) (n : ℕ) → n ≤ length H → failures_of (before H n) ≡ filter_map (failure_at H) (range_with_len 0 n)
@@ -187,7 +190,7 @@ tell_failures H =
     let each = told (past_of H) ∙ ap (λ l. failures_of (past_of l)) (sym (take_all (length H) H (omega arith))) ∙ by_places H (length H) (omega arith) in
     record {
       each = each;
-      numbered = counted (past_of H) ∙ ap (range_with_len 1) (sym (length-map (notices H) (λ (n : NoticeFields). n.failure)) ∙ ap length each);
+      numbered = counted (past_of H) ∙ ap (range_with_len 1) (sym (length-map (notices H) told_by) ∙ ap length each);
       brings = λ i r f _ is. (failure_down (before H i) r f is, failure_current (before H i) r f is);
       brought = λ i r a _ down. down_failure (before H i) r a down;
     }

@@ -4,6 +4,7 @@ use Rattle.std.specs.List.{range_with_len, list_any, IsDistinct}
 use Rattle.kl_entry.specs.Entries.{EntryFields}
 use Rattle.kl_quote.specs.declared.evidence.Evidence.{Evidence}
 use Rattle.kl_states.specs.declared.op.Op.{Op}
+use Rattle.kl_notice.specs.declared.notice.Notice.{Notice}
 use Rattle.kl_states.specs.declared.outcome.Outcome.TheVariants as outcome
 use Rattle.kl_states.specs.declared.verdict.Verdict.{Verdict as AnyVerdict}
 use Rattle.kl_states.specs.declared.verdict.Verdict.TheVariants.{Pass}
@@ -23,7 +24,7 @@ use Rattle.kl_history.specs.LookBacks.{installed, came, losses, missed, Passing,
 use Rattle.kl_history.specs.Accepted.{IsNothing, SignsBoot, IsAccepted}
 use Rattle.kl_history.specs.States.{is_current, is_live, ended, handed_for, PassedUnder, HasReached, IsDue, HasOp}
 use Rattle.kl_history.specs.Legal.{agents, IsBusy}
-use Rattle.kl_history.specs.Notices.{Failure, has_failed, failure, NoticeFields, notices}
+use Rattle.kl_history.specs.Notices.{Failure, has_failed, failure, told_by, notices}
 
 -- The record stands at this place of the history. Places count from 0.
 abbrev pub StandsAt : History → ℕ → Record → Type 0
@@ -160,8 +161,8 @@ is_current_end _ = false
 -- The notices tell the failures, one each, in order, and are numbered from 1. A failure is what brings a live agent to a state
 -- in which it has failed, and a record that is not current is none.
 pub record TellFailures (H : History) : Type 0 where
-  pub each : map (λ (n : NoticeFields). n.failure) (notices H) ≡ failures H
-  pub numbered : map (λ (n : NoticeFields). n.number) (notices H) ≡ range_with_len 1 (length (failures H))
+  pub each : map told_by (notices H) ≡ failures H
+  pub numbered : map (λ (n : Notice). n.number) (notices H) ≡ range_with_len 1 (length (failures H))
   pub brings : (i : ℕ) (r : Record) (f : Failure) → StandsAt H i r → failure (before H i) r ≡ Some f → BringsDown (before H i) r f.agent × (is_current_end r ≡ true)
   pub brought : (i : ℕ) (r : Record) (a : List ℕ) → StandsAt H i r → BringsDown (before H i) r a → (f : Failure) × (failure (before H i) r ≡ Some f) × (f.agent ≡ a)
 

@@ -3,33 +3,26 @@ use Rattle.std.specs.Prelude.{ℕ, ◌+◌, Bool, true, false, List, [], ◌∷�
 use Rattle.std.specs.Option.{option_map}
 use Rattle.kl_states.specs.declared.op.Op.TheVariants as op
 use Rattle.kl_states.specs.declared.op.Op.{Op}
-use Rattle.kl_states.specs.declared.verdict.Verdict.{Verdict}
+use Rattle.kl_notice.specs.declared.notice.Notice.{Notice}
+use Rattle.kl_notice.specs.declared.notice.FailWhy.{FailWhy}
+use Rattle.kl_notice.specs.declared.notice.FailWhy.TheVariants as failed_by
 use Rattle.kl_history.specs.declared.record.Record.{Record}
 use Rattle.kl_history.specs.declared.record.Record.TheVariants as record_of
 use Rattle.kl_history.specs.Records.{History, Past, past_of, Start, start_of, Handing, handing_of, own}
 use Rattle.kl_history.specs.LookBacks.{Installed, installed}
 use Rattle.kl_history.specs.States.{ended, is_live}
 
--- why an agent failed
-pub data Why : Type 0 where
-  -- a verdict
-  ByVerdict : Verdict → Why
-  -- five losses in a row
-  ByLosses : Why
-  -- five deliveries in a row were missed
-  ByDeliveries : Why
-
 -- what fails: the agent, its installed generation, and why
 pub record Failure : Type 0 where
   pub agent : List ℕ
   pub generation : ℕ
-  pub why : Why
+  pub why : FailWhy
 
 -- the reason that a record can give for a failure, and the agent that it belongs to
-abbrev pub blames : Past → Record → Option (List ℕ × Why)
-blames earlier (record_of.Verdict p e s v c) = option_map (λ (b : Start). (b.agent, ByVerdict v)) (start_of earlier p)
-blames earlier (record_of.Lost p w c) = option_map (λ (b : Start). (b.agent, ByLosses)) (start_of earlier p)
-blames earlier (record_of.Settled n o c) = option_map (λ (h : Handing). (h.agent, ByDeliveries)) (handing_of earlier n)
+abbrev pub blames : Past → Record → Option (List ℕ × FailWhy)
+blames earlier (record_of.Verdict p e s v c) = option_map (λ (b : Start). (b.agent, failed_by.Verdict v)) (start_of earlier p)
+blames earlier (record_of.Lost p w c) = option_map (λ (b : Start). (b.agent, failed_by.Losses)) (start_of earlier p)
+blames earlier (record_of.Settled n o c) = option_map (λ (h : Handing). (h.agent, failed_by.Undelivered)) (handing_of earlier n)
 blames earlier _ = None
 
 -- the state is one of those in which an agent has failed
@@ -39,29 +32,33 @@ has_failed (Some op.InvalidQuote) = true
 has_failed _ = false
 
 -- the failure of an agent that was live before a record and has failed after it
-abbrev pub failed_by : List ℕ → Why → Past → Past → Option Failure
-failed_by a why before after =
+abbrev pub downfall : List ℕ → FailWhy → Past → Past → Option Failure
+downfall a why before after =
     if is_live before && has_failed (ended after)
     then option_map (λ (i : Installed). record { agent = a; generation = i.generation; why = why }) (installed after)
     else None
 
 -- the failure that a record brings, where it brings a live agent to a state in which it has failed
 abbrev pub failure : Past → Record → Option Failure
-failure earlier r = elim (blames earlier r) [ None ↦ None | Some b ↦ failed_by b.0 b.1 (own earlier b.0) (own (r ∷ earlier) b.0) ]
+failure earlier r = elim (blames earlier r) [ None ↦ None | Some b ↦ downfall b.0 b.1 (own earlier b.0) (own (r ∷ earlier) b.0) ]
 
--- a notice: its number, from 1, and the failure that it tells
-pub record NoticeFields : Type 0 where
-  pub number : ℕ
-  pub failure : Failure
+-- the notice of a number that tells a failure
+abbrev pub notice_of : ℕ → Failure → Notice
+notice_of n f = record { number = n; agent = f.agent; generation = f.generation; why = f.why }
 
-abbrev pub with_failure : List NoticeFields → Option Failure → List NoticeFields
+-- the failure that a notice tells
+abbrev pub told_by : Notice → Failure
+told_by n = record { agent = n.agent; generation = n.generation; why = n.why }
+
+-- each failure has a notice with the next number, from 1
+abbrev pub with_failure : List Notice → Option Failure → List Notice
 with_failure ns None = ns
-with_failure ns (Some f) = ns ++ record { number = length ns + 1; failure = f } ∷ []
+with_failure ns (Some f) = ns ++ notice_of (length ns + 1) f ∷ []
 
 -- the notices of a history, the oldest first: one for each failure
-abbrev pub notices_of : Past → List NoticeFields
+abbrev pub notices_of : Past → List Notice
 notices_of [] = []
 notices_of (r ∷ earlier) = with_failure (notices_of earlier) (failure earlier r)
 
-abbrev pub notices : History → List NoticeFields
+abbrev pub notices : History → List Notice
 notices H = notices_of (past_of H)

@@ -28,7 +28,10 @@ use Rattle.kl_history.specs.Accepted.{no_boot, SignsBoot, IsAccepted, WasAccepte
 use Rattle.kl_history.specs.States.{HasOp}
 use Rattle.kl_history.specs.Releases.{MayRelease}
 use Rattle.kl_history.specs.Legal.{DifferInPolicy, Row, Legal}
-use Rattle.kl_history.specs.Notices.{Why, ByVerdict, ByLosses, ByDeliveries, NoticeFields, notices}
+use Rattle.kl_notice.specs.declared.notice.Notice.{Notice}
+use Rattle.kl_notice.specs.declared.notice.FailWhy.{FailWhy}
+use Rattle.kl_notice.specs.declared.notice.FailWhy.TheVariants as failed_by
+use Rattle.kl_history.specs.Notices.{notices}
 
 -- ---- What is given
 
@@ -113,8 +116,8 @@ abbrev pub IsNotReleased : History → Type 0
 IsNotReleased H = (n g p : ℕ) → ¬ (MayRelease (past_of H) n a1 g p)
 
 -- the one notice
-abbrev pub one_notice : ℕ → Why → List NoticeFields
-one_notice g why = record { number = 1; failure = record { agent = a1; generation = g; why = why } } ∷ []
+abbrev pub one_notice : ℕ → FailWhy → List Notice
+one_notice g why = record { number = 1; agent = a1; generation = g; why = why } ∷ []
 
 -- ---- A first pass
 
@@ -166,7 +169,7 @@ pub record LateFailure (x : Given) (r : Reply) (why : FailedCause) : Type 0 wher
   pub state : IsIn (late x r (Failed why)) op.Start
   pub none_told : notices (late x r (Failed why)) ≡ []
   pub in_time : IsIn (polled x ++ verdict 1 r (Failed why) true ∷ []) op.Failed
-  pub told : notices (polled x ++ verdict 1 r (Failed why) true ∷ []) ≡ one_notice 1 (ByVerdict (Failed why))
+  pub told : notices (polled x ++ verdict 1 r (Failed why) true ∷ []) ≡ one_notice 1 (failed_by.Verdict (Failed why))
 
 abbrev pub invalid : Given → Reply → InvalidCause → History
 invalid x r why = polled x ++ verdict 1 r (Invalid why) true ∷ []
@@ -175,7 +178,7 @@ invalid x r why = polled x ++ verdict 1 r (Invalid why) true ∷ []
 pub record InvalidQuote (x : Given) (r : Reply) (why : InvalidCause) : Type 0 where
   pub legal : Legal (invalid x r why)
   pub state : IsIn (invalid x r why) op.InvalidQuote
-  pub told : notices (invalid x r why) ≡ one_notice 1 (ByVerdict (Invalid why))
+  pub told : notices (invalid x r why) ≡ one_notice 1 (failed_by.Verdict (Invalid why))
   pub not_begun : IsNotBegun (invalid x r why)
   pub not_released : IsNotReleased (invalid x r why)
 
@@ -186,7 +189,7 @@ failed_twice x r q why why_too = polled x ++ replaced x 2 ∷ begun x 2 2 ∷ ve
 pub record SecondFailure (x : Given) (r q : Reply) (why why_too : FailedCause) : Type 0 where
   pub legal : Legal (failed_twice x r q why why_too)
   pub state : IsIn (failed_twice x r q why why_too) op.Failed
-  pub told : notices (failed_twice x r q why why_too) ≡ one_notice 2 (ByVerdict (Failed why_too))
+  pub told : notices (failed_twice x r q why why_too) ≡ one_notice 2 (failed_by.Verdict (Failed why_too))
 
 -- ---- Removed, and added again
 
@@ -224,7 +227,7 @@ pub record FiveLosses (x : Given) (r : Reply) : Type 0 where
   pub none_told : notices (four_losses x) ≡ []
   pub legal : Legal (five_losses x)
   pub state : IsIn (five_losses x) op.Failed
-  pub told : notices (five_losses x) ≡ one_notice 1 ByLosses
+  pub told : notices (five_losses x) ≡ one_notice 1 failed_by.Losses
   pub not_begun : IsNotBegun (five_losses x)
   pub dropped_between : IsIn (four_losses x ++ begun x 5 1 ∷ Dropped 5 dropped.Keys ∷ []) op.GetQuoteRetry
   pub begins_then : MayCome (four_losses x ++ begun x 5 1 ∷ Dropped 5 dropped.Keys ∷ []) (begun x 6 1)
@@ -296,7 +299,7 @@ pub record Undelivered (x : Given) (r : Reply) : Type 0 where
   pub then_arrived : missed (own_of (four_missed x r ++ Release 5 a1 1 1 ∷ Settled 5 Arrived true ∷ [])) ≡ 0
   pub legal : Legal (five_missed x r)
   pub state : IsIn (five_missed x r) op.Failed
-  pub told : notices (five_missed x r) ≡ one_notice 1 ByDeliveries
+  pub told : notices (five_missed x r) ≡ one_notice 1 failed_by.Undelivered
 
 -- ---- Rebooted
 

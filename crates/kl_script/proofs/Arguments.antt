@@ -8,9 +8,11 @@ use Rattle.kl_quote.specs.Size.{total_bytes}
 use Rattle.kl_script.specs.Words.{IsEscaped, IsField, IsNumber, IsSplit}
 use Rattle.kl_script.specs.Digits.{IsKey, IsMask, IsShare}
 use Rattle.kl_script.specs.Statics.{IsStatics}
+use Rattle.kl_script.specs.declared.command.Activate.{Activate}
 use Rattle.kl_script.specs.declared.command.Add.{Add}
+use Rattle.kl_script.specs.declared.command.Register.{Register}
 use Rattle.kl_script.specs.declared.command.Replace.{Replace}
-use Rattle.kl_script.specs.Commands.{ReplyFields, SpellsAdd, SpellsAgent, SpellsReplace, SpellsReply, kind_word}
+use Rattle.kl_script.specs.Commands.{ReplyFields, SpellsActivate, SpellsAdd, SpellsAgent, SpellsRegister, SpellsReplace, SpellsReply, kind_word}
 use Rattle.kl_script.proofs.Splitting.{IsSplit-same}
 use Rattle.kl_script.proofs.Escapes.{length-escaped}
 use Rattle.kl_script.proofs.Fields.{length-field}
@@ -191,3 +193,63 @@ reply_fits {arguments} said s =
     let bank = length-field s.bank said.bank s.is_bank in
     let public = length-field s.public said.public s.is_public in
     omega (arith, long, bank, public, length-field s.quote said.quote s.is_quote, length-escaped s.list said.list s.is_list)
+
+-- ---- a register
+
+pub record AreRegisterWords (items : List (Bor (List ℕ))) (rest : List ℕ) (said : Register) : Type 0 where
+  pub agent : SpellsAgent (word items 0) said.agent
+  pub ek : IsKey (word items 1) said.ek
+  pub ak : IsKey (word items 2) said.ak
+  pub contact : IsField rest said.contact
+
+pub register_words : {arguments rest : List ℕ} {words items : List (Bor (List ℕ))} (said : Register)
+    → items ≡ words → IsSplit arguments 3 (map bytes_of words) rest → SpellsRegister arguments said → AreRegisterWords items rest said
+register_words {arguments} {rest} {words} {items} said e split s =
+    let expected : List (List ℕ) = said.agent ∷ s.ek ∷ s.ak ∷ [] in
+    let same = IsSplit-same arguments 3 (map bytes_of words) expected rest s.contact split s.split in
+    let here : map bytes_of items ≡ expected = ap (map bytes_of) e ∙ same.0 in record {
+      agent = (word_at items expected here 0, s.is_agent);
+      ek = spelled_at items expected here IsKey 1 said.ek s.is_ek;
+      ak = spelled_at items expected here IsKey 2 said.ak s.is_ak;
+      contact = subst (λ (w : List ℕ). IsField w said.contact) (sym same.1) s.is_contact;
+    }
+
+pub spells_register : {arguments rest : List ℕ} {words items : List (Bor (List ℕ))} (said : Register)
+    → items ≡ words → IsSplit arguments 3 (map bytes_of words) rest → AreRegisterWords items rest said → SpellsRegister arguments said
+spells_register {arguments} {rest} {words} {items} said e split w =
+    let named : first_words items 3 ≡ said.agent ∷ word items 1 ∷ word items 2 ∷ [] = cc w.agent.0 in record {
+      ek = word items 1;
+      ak = word items 2;
+      contact = rest;
+      split = subst (λ (ws : List (List ℕ)). IsSplit arguments 3 ws rest) named (split_of e split);
+      is_agent = w.agent.1;
+      is_ek = w.ek;
+      is_ak = w.ak;
+      is_contact = w.contact;
+    }
+
+-- ---- an activate
+
+pub record AreActivateWords (items : List (Bor (List ℕ))) (rest : List ℕ) (said : Activate) : Type 0 where
+  pub agent : SpellsAgent (word items 0) said.agent
+  pub tag : IsField rest said.tag
+
+pub activate_words : {arguments rest : List ℕ} {words items : List (Bor (List ℕ))} (said : Activate)
+    → items ≡ words → IsSplit arguments 1 (map bytes_of words) rest → SpellsActivate arguments said → AreActivateWords items rest said
+activate_words {arguments} {rest} {words} {items} said e split s =
+    let expected : List (List ℕ) = said.agent ∷ [] in
+    let same = IsSplit-same arguments 1 (map bytes_of words) expected rest s.tag split s.split in
+    let here : map bytes_of items ≡ expected = ap (map bytes_of) e ∙ same.0 in record {
+      agent = (word_at items expected here 0, s.is_agent);
+      tag = subst (λ (w : List ℕ). IsField w said.tag) (sym same.1) s.is_tag;
+    }
+
+pub spells_activate : {arguments rest : List ℕ} {words items : List (Bor (List ℕ))} (said : Activate)
+    → items ≡ words → IsSplit arguments 1 (map bytes_of words) rest → AreActivateWords items rest said → SpellsActivate arguments said
+spells_activate {arguments} {rest} {words} {items} said e split w =
+    let named : first_words items 1 ≡ said.agent ∷ [] = cc w.agent.0 in record {
+      tag = rest;
+      split = subst (λ (ws : List (List ℕ)). IsSplit arguments 1 ws rest) named (split_of e split);
+      is_agent = w.agent.1;
+      is_tag = w.tag;
+    }

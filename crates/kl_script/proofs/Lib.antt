@@ -10,3 +10,4 @@ pub mod Begins
 pub mod Arguments
 pub mod Forms
 pub mod Unique
+pub mod Writing

@@ -8,8 +8,14 @@ use Rattle.kl_script.specs.declared.fault.CommandFault.{CommandFault}
 use Rattle.kl_script.specs.declared.fault.CommandFault.TheVariants.{NoCommand, Memory}
 use Rattle.kl_script.specs.declared.command.Command.{Command}
 use Rattle.kl_script.specs.declared.command.Command.TheVariants as commands
+use Rattle.kl_script.specs.declared.command.VerifierCommand.{VerifierCommand}
+use Rattle.kl_script.specs.declared.command.VerifierCommand.TheVariants as verifier_commands
+use Rattle.kl_script.specs.declared.command.RegistrarCommand.{RegistrarCommand}
+use Rattle.kl_script.specs.declared.command.RegistrarCommand.TheVariants as registrar_commands
+use Rattle.kl_script.specs.declared.command.Activate.{Activate}
 use Rattle.kl_script.specs.declared.command.Add.{Add}
 use Rattle.kl_script.specs.declared.command.Begin.{Begin}
+use Rattle.kl_script.specs.declared.command.Register.{Register}
 use Rattle.kl_script.specs.declared.command.Replace.{Replace}
 use Rattle.kl_script.specs.declared.command.Reply.{Reply}
 use Rattle.kl_script.specs.Words.{IsSplit, IsEscaped, IsField, IsNumber}
@@ -27,18 +33,26 @@ pub record ReplyFields : Type 0 where
   pub quote : List ℕ
   pub list : List ℕ
 
+pub data VerifierCommandFields : Type 0 where
+  add : Add → VerifierCommandFields
+  replace : Replace → VerifierCommandFields
+  reactivate : List ℕ → VerifierCommandFields
+  stop : List ℕ → VerifierCommandFields
+  remove : List ℕ → VerifierCommandFields
+  now : ℕ → VerifierCommandFields
+  begin : Begin → VerifierCommandFields
+  reply : ReplyFields → VerifierCommandFields
+  state : List ℕ → VerifierCommandFields
+  lose : ℕ → VerifierCommandFields
+  pick : VerifierCommandFields
+  notice : VerifierCommandFields
+  noticed : ℕ → VerifierCommandFields
+
 pub data CommandFields : Type 0 where
   -- an empty line, or a comment
   nothing : CommandFields
-  add : Add → CommandFields
-  replace : Replace → CommandFields
-  reactivate : List ℕ → CommandFields
-  stop : List ℕ → CommandFields
-  remove : List ℕ → CommandFields
-  now : ℕ → CommandFields
-  begin : Begin → CommandFields
-  reply : ReplyFields → CommandFields
-  state : List ℕ → CommandFields
+  to_verifier : VerifierCommandFields → CommandFields
+  to_registrar : RegistrarCommand → CommandFields
 
 abbrev pub reply_fields : Reply → ReplyFields
 reply_fields r = record {
@@ -50,17 +64,25 @@ reply_fields r = record {
   list = r.evidence.list;
 }
 
+abbrev pub verifier_fields : VerifierCommand → VerifierCommandFields
+verifier_fields (verifier_commands.Add a) = add a
+verifier_fields (verifier_commands.Replace r) = replace r
+verifier_fields (verifier_commands.Reactivate a) = reactivate a
+verifier_fields (verifier_commands.Stop a) = stop a
+verifier_fields (verifier_commands.Remove a) = remove a
+verifier_fields (verifier_commands.Now t) = now t
+verifier_fields (verifier_commands.Begin b) = begin b
+verifier_fields (verifier_commands.Reply r) = reply (reply_fields r)
+verifier_fields (verifier_commands.State a) = state a
+verifier_fields (verifier_commands.Lose p) = lose p
+verifier_fields verifier_commands.Pick = pick
+verifier_fields verifier_commands.Notice = notice
+verifier_fields (verifier_commands.Noticed n) = noticed n
+
 abbrev pub fields : Command → CommandFields
 fields commands.Nothing = nothing
-fields (commands.Add a) = add a
-fields (commands.Replace r) = replace r
-fields (commands.Reactivate a) = reactivate a
-fields (commands.Stop a) = stop a
-fields (commands.Remove a) = remove a
-fields (commands.Now t) = now t
-fields (commands.Begin b) = begin b
-fields (commands.Reply r) = reply (reply_fields r)
-fields (commands.State a) = state a
+fields (commands.Verifier c) = to_verifier (verifier_fields c)
+fields (commands.Registrar c) = to_registrar c
 
 -- ---- what stands behind the command's name and a space
 
@@ -123,6 +145,24 @@ pub record SpellsReply (arguments : List ℕ) (said : ReplyFields) : Type 0 wher
   pub is_quote : IsField quote said.quote
   pub is_list : IsEscaped list said.list
 
+-- the agent and its two keys, and its contact
+pub record SpellsRegister (arguments : List ℕ) (said : Register) : Type 0 where
+  pub ek : List ℕ
+  pub ak : List ℕ
+  pub contact : List ℕ
+  pub split : IsSplit arguments 3 (said.agent ∷ ek ∷ ak ∷ []) contact
+  pub is_agent : IsAgentId said.agent
+  pub is_ek : IsKey ek said.ek
+  pub is_ak : IsKey ak said.ak
+  pub is_contact : IsField contact said.contact
+
+-- the agent, and the tag
+pub record SpellsActivate (arguments : List ℕ) (said : Activate) : Type 0 where
+  pub tag : List ℕ
+  pub split : IsSplit arguments 1 (said.agent ∷ []) tag
+  pub is_agent : IsAgentId said.agent
+  pub is_tag : IsField tag said.tag
+
 -- ---- a whole line, without its newline
 
 -- an empty line, or a comment
@@ -133,17 +173,32 @@ IsBlank line = (line ≡ []) ⊎ ((comment : List ℕ) × (line ≡ codes "#" ++
 abbrev pub IsNamed : List ℕ → List ℕ → (List ℕ → Type 0) → Type 0
 IsNamed line name Spelled = (arguments : List ℕ) × (line ≡ name ++ 32 ∷ arguments) × Spelled arguments
 
+abbrev pub HasVerifierForm : List ℕ → VerifierCommandFields → Type 0
+HasVerifierForm line (add a) = IsNamed line (codes "add") (λ arguments. SpellsAdd arguments a)
+HasVerifierForm line (replace r) = IsNamed line (codes "replace") (λ arguments. SpellsReplace arguments r)
+HasVerifierForm line (reactivate a) = IsNamed line (codes "reactivate") (λ arguments. SpellsAgent arguments a)
+HasVerifierForm line (stop a) = IsNamed line (codes "stop") (λ arguments. SpellsAgent arguments a)
+HasVerifierForm line (remove a) = IsNamed line (codes "remove") (λ arguments. SpellsAgent arguments a)
+HasVerifierForm line (now t) = IsNamed line (codes "now") (λ arguments. IsNumber arguments t)
+HasVerifierForm line (begin b) = IsNamed line (codes "begin") (λ arguments. SpellsBegin arguments b)
+HasVerifierForm line (reply r) = IsNamed line (codes "reply") (λ arguments. SpellsReply arguments r)
+HasVerifierForm line (state a) = IsNamed line (codes "state") (λ arguments. SpellsAgent arguments a)
+HasVerifierForm line (lose p) = IsNamed line (codes "lose") (λ arguments. IsNumber arguments p)
+HasVerifierForm line pick = line ≡ codes "pick"
+HasVerifierForm line notice = line ≡ codes "notice"
+HasVerifierForm line (noticed n) = IsNamed line (codes "noticed") (λ arguments. IsNumber arguments n)
+
+abbrev pub HasRegistrarForm : List ℕ → RegistrarCommand → Type 0
+HasRegistrarForm line (registrar_commands.Register r) = IsNamed line (codes "register") (λ arguments. SpellsRegister arguments r)
+HasRegistrarForm line (registrar_commands.Activate a) = IsNamed line (codes "activate") (λ arguments. SpellsActivate arguments a)
+HasRegistrarForm line (registrar_commands.Record a) = IsNamed line (codes "record") (λ arguments. SpellsAgent arguments a)
+HasRegistrarForm line registrar_commands.Records = line ≡ codes "records"
+HasRegistrarForm line (registrar_commands.Forget a) = IsNamed line (codes "forget") (λ arguments. SpellsAgent arguments a)
+
 abbrev pub HasForm : List ℕ → CommandFields → Type 0
 HasForm line nothing = IsBlank line
-HasForm line (add a) = IsNamed line (codes "add") (λ arguments. SpellsAdd arguments a)
-HasForm line (replace r) = IsNamed line (codes "replace") (λ arguments. SpellsReplace arguments r)
-HasForm line (reactivate a) = IsNamed line (codes "reactivate") (λ arguments. SpellsAgent arguments a)
-HasForm line (stop a) = IsNamed line (codes "stop") (λ arguments. SpellsAgent arguments a)
-HasForm line (remove a) = IsNamed line (codes "remove") (λ arguments. SpellsAgent arguments a)
-HasForm line (now t) = IsNamed line (codes "now") (λ arguments. IsNumber arguments t)
-HasForm line (begin b) = IsNamed line (codes "begin") (λ arguments. SpellsBegin arguments b)
-HasForm line (reply r) = IsNamed line (codes "reply") (λ arguments. SpellsReply arguments r)
-HasForm line (state a) = IsNamed line (codes "state") (λ arguments. SpellsAgent arguments a)
+HasForm line (to_verifier c) = HasVerifierForm line c
+HasForm line (to_registrar c) = HasRegistrarForm line c
 
 -- the line is UTF-8 and has the form of the command
 pub record Spells (line : List ℕ) (command : CommandFields) : Type 0 where

@@ -7,7 +7,7 @@ use Rattle.hex.specs.Hex.{decode_of}
 abbrev pub IsHex : List ℕ → List ℕ → Type 0
 IsHex written bytes = decode_of written ≡ Ok bytes
 
--- an attestation key: 1 to 512 bytes
+-- a key: 1 to 512 bytes
 abbrev pub IsKey : List ℕ → List ℕ → Type 0
 IsKey written bytes = (2 ≤ length written) × (length written ≤ 1024) × IsHex written bytes
 

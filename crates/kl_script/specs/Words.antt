@@ -1,5 +1,5 @@
 -- How texts and numbers stand in a line of a script.
-use Rattle.std.specs.Prelude.{◌≡◌, ◌≢◌, ◌⊎◌, ℕ, ◌<◌, ◌^◌, List, [], ◌∷◌, ◌++◌, length, slice_index, codes}
+use Rattle.std.specs.Prelude.{◌≡◌, ◌≢◌, ◌⊎◌, ℕ, ◌<◌, ◌==◌, ◌^◌, List, [], ◌∷◌, ◌++◌, length, slice_index, codes, flat_map, if◌then◌else◌}
 use Rattle.std.specs.List.{join_with_byte, AllByRecursion}
 use Rattle.std.specs.Fmt.{decimal}
 
@@ -29,6 +29,16 @@ IsEscaped written (byte ∷ text) = (spelling : List ℕ) × (rest : List ℕ) �
 -- a field has no space: it spells a text that is not empty, or it is `\0`, the empty text
 abbrev pub IsField : List ℕ → List ℕ → Type 0
 IsField written text = HasNo 32 written × (((text ≢ []) × IsEscaped written text) ⊎ ((text ≡ []) × (written ≡ codes "\\0")))
+
+-- how a byte is written in a field
+abbrev pub spelling_of : ℕ → List ℕ
+spelling_of byte =
+    if byte == 32 then codes "\\s" else (if byte == 10 then codes "\\n" else (if byte == 92 then codes "\\\\" else byte ∷ []))
+
+-- the field as which a text is written: of those that spell it the one without a newline
+abbrev pub field_of : List ℕ → List ℕ
+field_of [] = codes "\\0"
+field_of (byte ∷ text) = flat_map spelling_of (byte ∷ text)
 
 -- the decimal text of a number below 2 ^ 64, without a sign or a leading zero; that of zero is `0`
 abbrev pub IsNumber : List ℕ → ℕ → Type 0

@@ -10,6 +10,15 @@ use kl_states::{AgentId, Blob, Nonce, PolicyKind, Text};
 pub enum Command {
     /// Nothing: an empty line, or a comment, which begins with `#`.
     Nothing,
+    /// A call of the verifier.
+    Verifier(VerifierCommand),
+    /// A call of the registrar.
+    Registrar(RegistrarCommand),
+}
+
+/// What is asked of the verifier.
+#[derive(Drop)]
+pub enum VerifierCommand {
     /// `add`, see [`Add`].
     Add(Add),
     /// `replace`, see [`Replace`].
@@ -28,6 +37,29 @@ pub enum Command {
     Reply(Reply),
     /// Asks how an agent stands: `state <agent>`.
     State(AgentId),
+    /// Ends an open poll since nothing came back: `lose <poll>`.
+    Lose(u64),
+    /// Asks which agent is polled next: `pick`.
+    Pick,
+    /// Asks for the first notice that is not delivered: `notice`.
+    Notice,
+    /// Says that the notice of this number is delivered: `noticed <number>`.
+    Noticed(u64),
+}
+
+/// What is asked of the registrar.
+#[derive(Drop)]
+pub enum RegistrarCommand {
+    /// `register`, see [`Register`].
+    Register(Register),
+    /// `activate`, see [`Activate`].
+    Activate(Activate),
+    /// Asks for the record of an agent that is active: `record <agent>`.
+    Record(AgentId),
+    /// Asks which agents are active: `records`.
+    Records,
+    /// Takes an agent's record out: `forget <agent>`.
+    Forget(AgentId),
 }
 
 /// Makes an agent known: `add <agent> <contact> <bank> <mask> <statics> <ak> <v> <kind> <policy>`.
@@ -81,4 +113,26 @@ pub struct Reply {
     pub poll: u64,
     /// What the agent answered.
     pub evidence: Evidence,
+}
+
+/// Registers an agent's keys: `register <agent> <ek> <ak> <contact>`.
+#[derive(Drop)]
+pub struct Register {
+    /// The agent's name.
+    pub agent: AgentId,
+    /// The public part of the endorsement key of its TPM.
+    pub ek: Blob,
+    /// The public part of its attestation key.
+    pub ak: Blob,
+    /// Where the agent is reached.
+    pub contact: Text,
+}
+
+/// Makes an agent's record active: `activate <agent> <tag>`.
+#[derive(Drop)]
+pub struct Activate {
+    /// The agent's name.
+    pub agent: AgentId,
+    /// What is said to be the agent's tag under the secret that it was sent.
+    pub tag: Text,
 }

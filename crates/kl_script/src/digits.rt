@@ -21,7 +21,7 @@ fn read_hex(alloc: Global, written: &str) -> Result<Vec<u8>, CommandFault>
     }
 }
 
-/// An attestation key: 2 to 1,024 digits.
+/// A key: 2 to 1,024 digits.
 pub(crate) fn read_key(alloc: Global, written: &str) -> Result<Blob, CommandFault>
     ensures found { IfOk result (λ key. IsKey written.now key) }
     ensures none { result ≡ Err CommandFault.NoCommand → (key : List ℕ) → ¬ (IsKey written.now key) }

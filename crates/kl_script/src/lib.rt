@@ -4,17 +4,22 @@
 mod command;
 mod digits;
 mod fault;
+mod ids;
 mod numbers;
 mod pieces;
 mod reading;
+mod registering;
 mod statics;
+mod verifying;
 mod words;
 
-pub use command::{Add, Begin, Command, Replace, Reply};
+pub use command::{
+    Activate, Add, Begin, Command, Register, RegistrarCommand, Replace, Reply, VerifierCommand,
+};
 pub use fault::CommandFault;
 pub use numbers::read_number;
 pub use reading::{one_command, read_command};
-pub use words::{read_field, unescape_rest};
+pub use words::{read_field, unescape_rest, write_field};
 
 #[cfg(test)]
 mod tests;

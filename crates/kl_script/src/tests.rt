@@ -5,7 +5,7 @@ use std::test::*;
 
 /// Lines by the command that they spell and the form of its policy: each command, and its parts at
 /// their edges.
-const LINES: [(&str, &str); 13] = [
+const LINES: [(&str, &str); 22] = [
     (
         "nothing",
         "\n#\n# a comment\n#stop a1\n# \u{e9} \u{1f511} \r\t\\x",
@@ -45,12 +45,30 @@ add a1 h sha256 0xFFffFF 9=00112233445566778899aabbccddeeff00112233 00 - flat x"
 reply 10 \\0 18446744073709551615 \\\\ \\s\\n 10 a\\n  b",
     ),
     ("state", "state a1"),
+    ("lose", "lose 0\nlose 10\nlose 18446744073709551615"),
+    ("pick", "pick"),
+    ("notice", "notice"),
+    (
+        "noticed",
+        "noticed 0\nnoticed 10\nnoticed 18446744073709551615",
+    ),
+    (
+        "register",
+        "register a1 aa bb h:9002\nregister A.b_- 00Ff aB h\\sone\nregister a1 00 00 \\0\nregister a1 11 22 \\\\\\n",
+    ),
+    (
+        "activate",
+        "activate a1 00\nactivate a1 \\0\nactivate a1 not\\sa\\stag",
+    ),
+    ("record", "record a1"),
+    ("records", "records"),
+    ("forget", "forget a1"),
     ("none", OTHERS),
 ];
 
 /// Lines that spell none: each part of a command out of its form.
 const OTHERS: &str =
-    " \n #\n\r\nlose 1\nadd\nnow\nreply\nstop\nstop \nstops a1\nStop a1\nsto a1\n stop a1\nstop  a1\nstop a1 \nstop a b\nstop a/1\nstop\ta1
+    " \n #\n\r\nadd\nnow\nreply\nstop\nstop \nstops a1\nStop a1\nsto a1\n stop a1\nstop  a1\nstop a1 \nstop a b\nstop a/1\nstop\ta1
 stop aaaaaaaaaaaaaaaaaaaaaaaaaaaaaaaaaaaaaaaaaaaaaaaaaaaaaaaaaaaaaaaaa
 reactivate\nreactivate a1 flat\nreactivate a1 \nremove \nremove a1 n1\nstate\nstate a1 1\nstate a1\r
 now \nnow 01\nnow 00\nnow -1\nnow +1\nnow 1 \nnow  1\nnow 1 2\nnow 1.5\nnow 0x1\nnow 18446744073709551616
@@ -63,6 +81,12 @@ begin a1 n-1\nbegin a/1
 reply 1 sha256 0 p q\nreply x sha256 0 p q \nreply 01 sha256 0 p q \nreply +1 sha256 0 p q \nreply 18446744073709551616 sha256 0 p q \n\
 reply  sha256 0 p q \nreply 1 sha256 00 p q \nreply 1 sha256 +1 p q \nreply 1 sha256 18446744073709551616 p q \nreply 1 sha256 0 p\\0 q \n\
 reply 1 sha256 0 p q \\0
+register a1 aa bb\nregister a1 aa bb \nregister a1 aa bb h x\nregister a1 aa  h\nregister a1 a bb h\nregister a1 aa bbb h\n\
+register a1 aa bg h\nregister a/1 aa bb h\nregister a1 aa bb h\\t\nregister a1  bb h\nregister\nactivate a1\nactivate a1 \nactivate a1 00 \n\
+activate a1 0\\1\nactivate a/1 00\nactivate\nrecord\nrecord \nrecord a1 a2\nrecords \nrecords a1\n records\nRecords\nrecord s\\\nforget\n\
+forget a1 \nforgets a1
+lose\nlose \nlose 01\nlose 1 \nlose 1 2\nlose x\nlose 18446744073709551616\nlost 1\npick \npick 1\n pick\nPick\npicks\nnotice \nnotice 1\n\
+notices\nnoticed\nnoticed \nnoticed 00\nnoticed 1 2\nnoticed -1\nnoticed 18446744073709551616
 add a1 h sha1 0x0 - 00 - flat
 add a1 h sha1 0x0 - 00 - json\nadd a1 h sha1 0x0 - 00 - Json {}\nadd a1 h sha1 0x0 - 00 - jsonx {}\nadd a1 h sha1 0x0 - 00 - json{}\n\
 add a1 h sha1 0x0 - 00 - flatjson {}\nadd a1 h sha1 0x0 - 00 -  json {}\nadd a1 h sha1 0x0 - 00 json {}\nadd a1 h sha1 0x0 - 00 - json \\0
@@ -90,19 +114,44 @@ fn name_by(kind: PolicyKind, flat: &'static str, json: &'static str) -> &'static
     }
 }
 
-/// The name of a command and of its policy's form.
+/// The name of a command to the verifier, and of its policy's form.
+fn name_of_verifier(command: &VerifierCommand) -> &'static str {
+    match command {
+        VerifierCommand::Add(add) => name_by(add.kind, "add flat", "add json"),
+        VerifierCommand::Replace(replace) => {
+            name_by(replace.kind, "replace flat", "replace json")
+        },
+        VerifierCommand::Reactivate(_) => "reactivate",
+        VerifierCommand::Stop(_) => "stop",
+        VerifierCommand::Remove(_) => "remove",
+        VerifierCommand::Now(_) => "now",
+        VerifierCommand::Begin(_) => "begin",
+        VerifierCommand::Reply(_) => "reply",
+        VerifierCommand::State(_) => "state",
+        VerifierCommand::Lose(_) => "lose",
+        VerifierCommand::Pick => "pick",
+        VerifierCommand::Notice => "notice",
+        VerifierCommand::Noticed(_) => "noticed",
+    }
+}
+
+/// The name of a command to the registrar.
+fn name_of_registrar(command: &RegistrarCommand) -> &'static str {
+    match command {
+        RegistrarCommand::Register(_) => "register",
+        RegistrarCommand::Activate(_) => "activate",
+        RegistrarCommand::Record(_) => "record",
+        RegistrarCommand::Records => "records",
+        RegistrarCommand::Forget(_) => "forget",
+    }
+}
+
+/// The name of a command, and of its policy's form.
 fn name_of(command: &Command) -> &'static str {
     match command {
         Command::Nothing => "nothing",
-        Command::Add(add) => name_by(add.kind, "add flat", "add json"),
-        Command::Replace(replace) => name_by(replace.kind, "replace flat", "replace json"),
-        Command::Reactivate(_) => "reactivate",
-        Command::Stop(_) => "stop",
-        Command::Remove(_) => "remove",
-        Command::Now(_) => "now",
-        Command::Begin(_) => "begin",
-        Command::Reply(_) => "reply",
-        Command::State(_) => "state",
+        Command::Verifier(command) => name_of_verifier(command),
+        Command::Registrar(command) => name_of_registrar(command),
     }
 }
 
@@ -151,6 +200,25 @@ fn a_line_of_the_greatest_length_is_read(rt: HostRuntime) -> Result<(), Fail> {
     let line = reply_with(rt.alloc(), 16_777_195)?;
     assert!(rt; line.len() == 16_777_216);
     assert!(rt; name_in(rt.alloc(), line.as_slice()) == Some("reply"));
+    Ok(())
+}
+
+/// Texts, and the fields as which they are written.
+const FIELDS: [(&str, &str); 6] = [
+    ("", "\\0"),
+    ("h:9002", "h:9002"),
+    ("a b", "a\\sb"),
+    (" \n\\", "\\s\\n\\\\"),
+    ("\\0", "\\\\0"),
+    ("\u{e9} \u{1f511}\r\t", "\u{e9}\\s\u{1f511}\r\t"),
+];
+
+#[test]
+fn texts_are_written_as_fields(rt: HostRuntime) -> Result<(), Fail> {
+    for (text, field) in FIELDS {
+        let written = write_field(rt.alloc(), text)?;
+        assert!(rt; written.as_str() == field, "{field}");
+    }
     Ok(())
 }
 

@@ -1,11 +1,11 @@
 //! Words, fields and rests of a line.
 
-ghost use Rattle.std.specs.Prelude.{◌≡◌, ◌<◌, List, ℕ, IfOk, OnErr, Err, map, ◌++◌, ◌∷◌};
+ghost use Rattle.std.specs.Prelude.{◌≡◌, ◌≢◌, ◌<◌, List, ℕ, IfOk, OnOk, OnErr, Err, map, flat_map, length, ◌++◌, ◌∷◌, encode_utf8};
 ghost use Rattle.std.specs.String.{string_bytes};
-ghost use Rattle.kl_script.specs.Words.{HasNo, IsEscaped, IsField, IsSplit, StandsFor};
+ghost use Rattle.kl_script.specs.Words.{HasNo, IsEscaped, IsField, IsSplit, StandsFor, field_of, spelling_of};
 
 use crate::fault::CommandFault;
-use std::alloc::Global;
+use std::alloc::{AllocError, Global};
 
 /// What stands before the first separator, and what stands behind it.
 pub(crate) fn cut_at(text: &str, separator: char) -> Result<(&str, &str), CommandFault>
@@ -88,4 +88,40 @@ pub fn read_field(alloc: Global, written: &str) -> Result<String, CommandFault>
         return Err(CommandFault::NoCommand);
     }
     unescape_rest(alloc, written)
+}
+
+/// Writes a character of a field.
+fn write_char(field: &mut String, character: char) -> Result<(), AllocError>
+    ensures { OnOk result (string_bytes field.new ≡ string_bytes field.old ++ flat_map spelling_of (encode_utf8 character)) }
+{
+    match character {
+        ' ' => field.push_str("\\s"),
+        '\n' => field.push_str("\\n"),
+        '\\' => field.push_str("\\\\"),
+        plain => field.push(plain),
+    }
+}
+
+/// Writes each character of a text.
+fn write_chars(alloc: Global, text: &str) -> Result<String, AllocError>
+    ensures { IfOk result (λ field. string_bytes field ≡ flat_map spelling_of text.now) }
+{
+    let mut field = String::with_capacity(alloc, text.len())?;
+    for character in text.chars() {
+        write_char(&mut field, character)?;
+    }
+    Ok(field)
+}
+
+/// The field as which a text is written: a space as `\s`, a newline as `\n`, a backslash as `\\`, every other byte as
+/// itself, and the empty text as `\0`. What [`read_field`] makes of it is the text.
+pub fn write_field(alloc: Global, text: &str) -> Result<String, AllocError>
+    ensures written { IfOk result (λ field. string_bytes field ≡ field_of text.now) }
+    ensures spells { IfOk result (λ field. IsField (string_bytes field) text.now) }
+    ensures lineless { IfOk result (λ field. HasNo 10 (string_bytes field)) }
+{
+    if text.is_empty() {
+        return String::from_str(alloc, "\\0");
+    }
+    write_chars(alloc, text)
 }

@@ -1,6 +1,6 @@
 -- What the calls of a session do to its history, its tickets and its lines.
 use Rattle.std.proofs.Common.{◌≡◌, ℕ, ◌≤◌, true, List, [], ◌∷◌, ◌++◌, Option, Some, None, Result, Ok, Err, ◌⊎◌, inl, inr}
-use Rattle.std.proofs.Common.{refl, ap, sym, ◌∙◌, subst, arith, append-nil}
+use Rattle.std.proofs.Common.{refl, ap, sym, ◌∙◌, subst, arith}
 use Rattle.std.specs.Option.{option_map_or}
 use Rattle.kl_policy.specs.PolicyFields.{PolicyFields}
 use Rattle.kl_appraise.specs.Terms.{TermsFields}
@@ -14,53 +14,51 @@ use Rattle.kl_history.specs.LookBacks.{Installed, installed}
 use Rattle.kl_history.specs.Legal.{Legal, IsLegalPast}
 use Rattle.kl_history.proofs.Numbers.{open_drawn, drawn_bound}
 use Rattle.kl_history.proofs.Rows.{poll_numbers, is_open-stays, polls_in_order}
+use Rattle.kl_core.specs.Books.{BookFields, past, with_more}
 use Rattle.kl_core.specs.declared.refusal.Refusal.{Refusal}
-use Rattle.kl_core.specs.Installs.{Adds, add_makes, Replaces, replace_makes, Reactivates, reactivate_makes, with_policy}
-use Rattle.kl_core.specs.Endings.{Stops, stop_makes, Removes, remove_makes}
+use Rattle.kl_core.specs.Installs.{add_makes, replace_makes, reactivate_makes, with_policy}
+use Rattle.kl_core.specs.Endings.{stop_makes, remove_makes}
 use Rattle.kl_core.specs.Begins.{Begins, begin_of}
 use Rattle.kl_core.specs.Tickets.{IsOpenTicket}
-use Rattle.kl_session.specs.Calls.{SessionFields, Answered}
+use Rattle.kl_session.specs.Calls.{Answered, verifier_of}
 use Rattle.kl_session.specs.Installs.{says_installed, says_installed_or}
 use Rattle.kl_session.specs.Endings.{says_done}
 use Rattle.kl_session.specs.Texts.{installed_line, stopped_line, removed_line}
 use Rattle.kl_session.specs.Inner.Tickets.{AreTickets}
-use Rattle.kl_session.proofs.Opened.{Leaves, behind, left_alone, begun}
+use Rattle.kl_session.proofs.Opened.{Leaves, behind, left_alone, begun, with_none}
 
 -- ---- calls
 
 -- a call was answered, and has made its records
-pub record Made {A : Type 0} (Answers : A → Past → Type 0) (makes : A → Past → List Record) (H H' : History) (answer : A) : Type 0 where
-  pub answers : Answers answer (past_of H)
-  pub grown : H' ≡ H ++ makes answer (past_of H)
+pub record Made {A : Type 0} (Answers : A → Past → Type 0) (makes : A → Past → List Record) (b b' : BookFields) (answer : A) : Type 0 where
+  pub answers : Answers answer (past b)
+  pub grown : b' ≡ with_more (makes answer (past b)) b
 
 -- the records neither begin nor close a poll, and where nothing is said there are none
 pub record Plain (said : Option (List ℕ)) (made : List Record) : Type 0 where
   pub leaves : Leaves made
   pub unless : ((line : List ℕ) × (said ≡ Some line)) ⊎ (made ≡ [])
 
-abbrev session : History → ℕ → SessionFields
-session H m = record { history = H; moment = m }
-
-module _ {A : Type 0} {Answers : A → Past → Type 0} {makes : A → Past → List Record} {H H' : History} {answer : A}
-    (made : Made Answers makes H H' answer) (says : A → Option (List ℕ)) where
+module _ {A : Type 0} {Answers : A → Past → Type 0} {makes : A → Past → List Record} {b b' : BookFields} {answer : A}
+    (made : Made Answers makes b b' answer) (says : A → Option (List ℕ)) where
   -- it was done, where its line is said
-  pub done_of : (m : ℕ) (line : List ℕ) → says answer ≡ Some line → Answered Answers makes says (session H m) (session H' m) line
-  done_of m line said = record { answer = answer; answers = made.answers; after = ap (λ K. session K m) made.grown; said = said }
+  pub done_of : (m : ℕ) (line : List ℕ) → says answer ≡ Some line → Answered Answers makes says (verifier_of b m) (verifier_of b' m) line
+  done_of m line said = record { answer = answer; answers = made.answers; after = ap (λ c. verifier_of c m) made.grown; said = said }
 
   -- where memory runs out for the line, it was done or nothing was
-  pub short_of : (m : ℕ) → Plain (says answer) (makes answer (past_of H))
-      → ((line : List ℕ) × Answered Answers makes says (session H m) (session H' m) line) ⊎ (session H' m ≡ session H m)
+  pub short_of : (m : ℕ) → Plain (says answer) (makes answer (past b))
+      → ((line : List ℕ) × Answered Answers makes says (verifier_of b m) (verifier_of b' m) line) ⊎ (verifier_of b' m ≡ verifier_of b m)
   short_of m plain = elim plain.unless [
     | inl said ↦ inl (said.0, done_of m said.0 said.1)
-    | inr none ↦ inr (ap (λ K. session K m) (made.grown ∙ ap (λ records. H ++ records) none ∙ append-nil H))
+    | inr none ↦ inr (ap (λ c. verifier_of c m) (made.grown ∙ ap (λ records. with_more records b) none ∙ with_none b))
   ]
 
   -- the tickets stay those of the open polls
-  pub kept : (ts : List TicketFields) → Plain (says answer) (makes answer (past_of H)) → Legal H'
-      → AreTickets (past_of H) ts → AreTickets (past_of H') ts
+  pub kept : (ts : List TicketFields) → Plain (says answer) (makes answer (past b)) → Legal b'.history
+      → AreTickets (past b) ts → AreTickets (past b') ts
   kept ts plain legal are =
-      subst (λ (K : History). AreTickets (past_of K) ts) (sym made.grown)
-      (left_alone H (makes answer (past_of H)) ts plain.leaves (subst Legal made.grown legal) are)
+      subst (λ (c : BookFields). AreTickets (past c) ts) (sym made.grown)
+      (left_alone b.history (makes answer (past b)) ts plain.leaves (subst (λ (c : BookFields). Legal c.history) made.grown legal) are)
 
 -- ---- installs, stops and removals are plain
 
@@ -109,14 +107,15 @@ drawn_by past p legal opened =
     (drawn_bound poll_numbers p found.2 (polls_in_order past legal) found.3).1
 
 -- its ticket comes behind the others
-pub joined : (H H' : History) (a n : List ℕ) (at : ℕ) (t : TicketFields) (ts : List TicketFields) → Begins a n at t (past_of H)
-    → H' ≡ H ++ begin_of t at ∷ [] → Legal H' → AreTickets (past_of H) ts → AreTickets (past_of H') (ts ++ t ∷ [])
-joined H H' a n at t ts begins grown legal are =
+pub joined : (b b' : BookFields) (a n : List ℕ) (at : ℕ) (t : TicketFields) (ts : List TicketFields) → Begins a n at t (past b)
+    → b' ≡ with_more (begin_of t at ∷ []) b → Legal b'.history → AreTickets (past b) ts → AreTickets (past b') (ts ++ t ∷ [])
+joined b b' a n at t ts begins grown legal are =
+    let H : History = b.history in
     let now : past_of (H ++ begin_of t at ∷ []) ≡ begin_of t at ∷ past_of H = behind H (begin_of t at ∷ []) in
-    let lawful : Legal (H ++ begin_of t at ∷ []) = subst Legal grown legal in
+    let lawful : Legal (H ++ begin_of t at ∷ []) = subst (λ (c : BookFields). Legal c.history) grown legal in
     let earlier : IsLegalPast (past_of H) = (subst IsLegalPast now lawful).0 in
     let next = begins.next in
-    subst (λ (K : History). AreTickets (past_of K) (ts ++ t ∷ [])) (sym grown)
+    subst (λ (c : BookFields). AreTickets (past c) (ts ++ t ∷ [])) (sym grown)
     (begun H (begin_of t at) t ts lawful refl (λ p. refl) (λ p. refl)
     (λ p is. let le = drawn_by (past_of H) p earlier is in omega arith)
     (subst (λ (past : Past). IsOpenTicket past t) (sym now) (begins.opened, begins.given))

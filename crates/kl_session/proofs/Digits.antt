@@ -1,5 +1,5 @@
 -- The hexadecimal digits of drawn bytes are a nonce.
-use Rattle.std.proofs.Common.{◌≡◌, ℕ, ◌*◌, ◌<◌, ◌/◌, ◌%◌, true, List, [], ◌∷◌, length, slice_index}
+use Rattle.std.proofs.Common.{◌≡◌, ℕ, ◌<◌, ◌/◌, ◌%◌, true, List, [], ◌∷◌, length, slice_index}
 use Rattle.std.proofs.Common.{suc, Result, Ok, Err, refl, arith}
 use Rattle.std.specs.Result.{IsOk, OnOk}
 use Rattle.std.specs.List.{AllPass}

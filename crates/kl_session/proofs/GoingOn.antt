@@ -1,9 +1,8 @@
 -- From one command to the next the objects of the outside go on as they were, and the history grows.
-use Rattle.std.proofs.Common.{◌≡◌, ◌⊎◌, ℕ, ◌≤◌, Bool, false, List, [], ◌∷◌, ◌++◌, length, Option, Some, None, inl, inr, refl, sym, ap, ◌∙◌, subst}
+use Rattle.std.proofs.Common.{◌≡◌, ◌⊎◌, ℕ, Bool, false, List, [], ◌∷◌, ◌++◌, length, Option, Some, None, Result, Ok, Err, inl, inr, refl, sym, ap, ◌∙◌, subst}
 use Rattle.std.proofs.Common.{arith, append-nil, append_assoc}
-use Rattle.std.specs.Io.KnownBytes.{Consumes}
 use Rattle.std.specs.Prelude.{All}
-use Rattle.std.proofs.lemmas.Option.{same_Some, none-some}
+use Rattle.std.proofs.lemmas.Option.{same_Some}
 use Rattle.std.proofs.lemmas.List.Elements.{All-take}
 use Rattle.std.proofs.Math.Seq.{take-append_seam}
 use Rattle.kl_io.specs.Told.{WordsTold}
@@ -12,7 +11,6 @@ use Rattle.kl_quote.specs.declared.evidence.Evidence.{Evidence}
 use Rattle.kl_states.specs.declared.verdict.InvalidCause.{InvalidCause}
 use Rattle.kl_states.specs.declared.verdict.Verdict.TheVariants.{Invalid}
 use Rattle.kl_appraise.specs.Terms.{TermsFields}
-use Rattle.kl_appraise.specs.Asking.{Asked}
 use Rattle.kl_appraise.specs.Kept.{from_of}
 use Rattle.kl_appraise.specs.Evidence.{Check, check_under}
 use Rattle.kl_appraise.specs.QuoteRules.{QuoteRules, IsUnasked, IsSoundQuote}
@@ -21,70 +19,33 @@ use Rattle.kl_appraise.specs.declared.judged.Outcome.{Outcome as Finding}
 use Rattle.kl_appraise.specs.declared.judged.Outcome.TheVariants.{Verdict as Judged}
 use Rattle.kl_appraise.specs.Outcome.{IsOutcome}
 use Rattle.kl_incr.specs.Kept.{TicketFields}
-use Rattle.kl_script.specs.Commands.{ReplyFields, CommandFields, nothing, add, replace, reactivate, stop, remove, now, begin, reply, state}
+use Rattle.kl_registrar.specs.Calls.{Log}
+use Rattle.kl_registrar.specs.declared.fault.RegFault.{RegFault}
+use Rattle.kl_registrar.specs.declared.fault.RegFault.TheVariants.{Full, KeysFault}
+use Rattle.kl_script.specs.declared.command.Register.{Register}
+use Rattle.kl_script.specs.declared.command.RegistrarCommand.{RegistrarCommand}
+use Rattle.kl_script.specs.declared.command.RegistrarCommand.TheVariants as registrar
+use Rattle.kl_script.specs.Commands.{ReplyFields, VerifierCommandFields, add, replace, reactivate, stop, remove, now, begin, reply, state, lose, pick, notice, noticed}
+use Rattle.kl_script.specs.Commands.{CommandFields, nothing, to_verifier, to_registrar}
 use Rattle.kl_history.specs.declared.record.Record.{Record}
 use Rattle.kl_history.specs.Records.{History, Past, past_of, Start, terms_of}
 use Rattle.kl_history.specs.Legal.{IsLegalPast, IsCaseOf}
+use Rattle.kl_states.specs.declared.outcome.LostWhy.TheVariants.{Named}
+use Rattle.kl_core.specs.Closes.{lost_record}
 use Rattle.kl_core.specs.Tickets.{IsOpenTicket}
 use Rattle.kl_session.specs.declared.stop.Stop.TheVariants.{NoNonce}
 use Rattle.kl_session.specs.Outside.{Outside}
-use Rattle.kl_session.specs.Calls.{SessionFields, past as past_at, Answered}
-use Rattle.kl_session.specs.Polls.{Draws, HasNonce}
+use Rattle.kl_session.specs.Calls.{VerifierFields, SessionFields, past as past_at, Answered}
 use Rattle.kl_session.specs.Replies.{Appraisal, Finds, Unanswered, Short, IsFinding, Went, DoesReply}
-use Rattle.kl_session.specs.Stopped.{DrawsNone, IsStopped}
+use Rattle.kl_session.specs.Registering.{RegisterAnswers, RegistrarDoes}
+use Rattle.kl_session.specs.Stopped.{VerifierStopped, RegistrarStopped, IsStopped}
+use Rattle.kl_session.specs.Verifying.{VerifierDoes}
 use Rattle.kl_session.specs.Session.{Does, Follows}
 use Rattle.kl_session.specs.Unique.{is_short, LacksNothing, GoesOn, Grows}
 use Rattle.kl_exclude.specs.Told.{MakerTold}
 use Rattle.kl_session.proofs.Opened.{behind}
+use Rattle.kl_session.proofs.Moments.{KeysOn, spared, asked, asked_blob, asks_on, same_on, and_on, draws_on, nonce_on, none_on}
 use Rattle.kl_session.proofs.Readings.{reads_on, refuses_on, no_terms_on}
-
--- ---- what was known of the words stays known
-
-pub consumed : (w : List ℕ) (old new : Option (List ℕ)) (drawn : List ℕ) → old ≡ Some w → Consumes old new drawn
-    → (v : List ℕ) × (new ≡ Some v) × (w ≡ drawn ++ v)
-consumed w None new drawn is h = absurd (none-some w is)
-consumed w (Some u) None drawn is h = absurd h
-consumed w (Some u) (Some v) drawn is h = (v, refl, sym (same_Some u w is) ∙ h)
-
-pub same_on : (o o' : Outside) → o' ≡ o → GoesOn o o'
-same_on o o' same = record {
-  related = ap (λ (z : Outside). z.keys.relations) same;
-  keys = omega (arith, ap (λ (z : Outside). z.keys.calls.faults) same);
-  drawn = omega (arith, ap (λ (z : Outside). z.words.calls.faults) same);
-  left = λ w is. (w, ap (λ (z : Outside). z.words.left) same ∙ is);
-  made = omega (arith, ap (λ (z : Outside). z.maker.calls.faults) same);
-}
-
-pub and_on : (o then o' : Outside) → GoesOn o then → GoesOn then o' → GoesOn o o'
-and_on o then o' f g = record {
-  related = g.related ∙ f.related;
-  keys = omega (arith, f.keys, g.keys);
-  drawn = omega (arith, f.drawn, g.drawn);
-  left = λ w is. let known = f.left w is in g.left known.0 known.1;
-  made = omega (arith, f.made, g.made);
-}
-
-draws_on : (o o' : Outside) (nonce : List ℕ) → Draws o o' nonce → GoesOn o o'
-draws_on o o' nonce d = record {
-  related = ap (λ (k : KeysTold). k.relations) d.keys;
-  keys = omega (arith, ap (λ (k : KeysTold). k.calls.faults) d.keys);
-  drawn = d.once.later;
-  left = λ w is. let known = consumed w o.words.left o'.words.left d.drawn is d.taken in (known.0, known.1);
-  made = omega (arith, ap (λ (m : MakerTold). m.calls.faults) d.maker);
-}
-
-nonce_on : (o o' : Outside) (named : Option (List ℕ)) (nonce : List ℕ) → HasNonce o o' named nonce → GoesOn o o'
-nonce_on o o' (Some n) nonce h = same_on o o' h.0
-nonce_on o o' None nonce h = draws_on o o' nonce h
-
-none_on : (o o' : Outside) → DrawsNone o o' → GoesOn o o'
-none_on o o' d = record {
-  related = ap (λ (k : KeysTold). k.relations) d.keys;
-  keys = omega (arith, ap (λ (k : KeysTold). k.calls.faults) d.keys);
-  drawn = elim d.cause [ inl met ↦ met.later | inr few ↦ few.1.later ];
-  left = λ w is. (w, d.left ∙ is);
-  made = omega (arith, ap (λ (m : MakerTold). m.calls.faults) d.maker);
-}
 
 -- ---- the key object is asked, or is not: the rule that decides says which
 
@@ -120,17 +81,6 @@ of_case past t e signed c (_, given) x =
     let nonce = x.nonce ∙ ap (λ (s : Start). s.nonce) start in
     ap (λ u. unasked_by u c.nonce c.evidence) terms ∙ ap (λ n. unasked_by t.terms n c.evidence) nonce ∙ ap (unasked_by t.terms t.nonce) x.evidence
 
--- the key object keeps its relations, and its count of faults does not fall
-record KeysOn (k k' : KeysTold) : Type 0 where
-  pub related : k'.relations ≡ k.relations
-  pub later : k.calls.faults ≤ k'.calls.faults
-
-spared : (k k' : KeysTold) → k' ≡ k → KeysOn k k'
-spared k k' same = record { related = ap (λ (x : KeysTold). x.relations) same; later = omega (arith, ap (λ (x : KeysTold). x.calls.faults) same) }
-
-asked : (k k' : KeysTold) (ak quote : List ℕ) (answer : Option Bool) → Asked k k' ak quote answer → KeysOn k k'
-asked k k' ak quote answer a = record { related = a.relations; later = a.counted.later }
-
 finding_on : (o o' : Outside) (past : Past) (t : TicketFields) (e : Evidence) (signed : Bool) (found : Finding)
     → IsOpenTicket past t → IsFinding o o' past t e signed found → KeysOn o.keys o'.keys
 unfolding unasked_by
@@ -148,8 +98,8 @@ went_on o o' past t e Unanswered opened (due, met, _) = asked o.keys o'.keys t.t
 went_on o o' past t e Short opened (inl same, _, _, _) = spared o.keys o'.keys same
 went_on o o' past t e Short opened (inr (due, met), _, _, _) = asked o.keys o'.keys t.terms.ak e.quote met.0 met.1
 
-reply_on : (o o' : Outside) (r : ReplyFields) (s s' : SessionFields) (line : List ℕ) → DoesReply o o' r s s' line → GoesOn o o'
-reply_on o o' r s s' line (inr none) = same_on o o' none.1
+reply_on : (o o' : Outside) (r : ReplyFields) (s s' : VerifierFields) (line : List ℕ) → DoesReply o o' r s s' line → GoesOn o o'
+reply_on o o' r s s' line (inr none) = same_on o o' none.0
 reply_on o o' r s s' line (inl f) =
     let on = went_on o o' (past_at s) f.ticket f.evidence f.closes.appraisal f.opened f.closes.went in
     record {
@@ -160,22 +110,52 @@ reply_on o o' r s s' line (inl f) =
       left = λ w is. (w, ap (λ (x : WordsTold). x.left) f.closes.undrawn ∙ is);
     }
 
+-- ---- a command to the verifier
+
+verifier_on : (o o' : Outside) (s : VerifierFields) (c : VerifierCommandFields) (s' : VerifierFields) (line : List ℕ) → VerifierDoes o o' s c s' line → GoesOn o o'
+unfolding VerifierDoes
+verifier_on o o' s (add a) s' line (inl (t, named, are, reads, h)) = reads_on o o' s.history a.kind t.policy reads
+verifier_on o o' s (add a) s' line (inr (why, none, h)) = no_terms_on o o' s.history a why none
+verifier_on o o' s (replace r) s' line (inl (p, is, reads, h)) = reads_on o o' s.history r.kind p reads
+verifier_on o o' s (replace r) s' line (inr (why, none, h)) = refuses_on o o' r.kind r.policy why none
+verifier_on o o' s (reactivate a) s' line h = same_on o o' h.0
+verifier_on o o' s (stop a) s' line h = same_on o o' h.0
+verifier_on o o' s (remove a) s' line h = same_on o o' h.0
+verifier_on o o' s (now t) s' line h = same_on o o' h.0
+verifier_on o o' s (begin b) s' line h = nonce_on o o' b.nonce h.0 h.1
+verifier_on o o' s (reply r) s' line h = reply_on o o' r s s' line h
+verifier_on o o' s (state a) s' line h = same_on o o' h.0
+verifier_on o o' s (lose p) s' line h = same_on o o' h.0
+verifier_on o o' s pick s' line h = same_on o o' h.0
+verifier_on o o' s notice s' line h = same_on o o' h.0
+verifier_on o o' s (noticed n) s' line h = same_on o o' h.0
+
+-- ---- a command to the registrar
+
+register_on : (r : Register) (secret : List ℕ) (k k' : KeysTold) (answer : Result (List ℕ) RegFault) (calls : Log)
+    → RegisterAnswers r secret k k' answer calls → KeysOn k k'
+register_on r secret k k' (Ok blob) calls h = asked_blob k k' r.ek r.ak secret (Some blob) ⊥ h.1
+register_on r secret k k' (Err Full) calls h = spared k k' h.1
+register_on r secret k k' (Err KeysFault) calls h = asked_blob k k' r.ek r.ak secret None (Unit {0}) h.1
+register_on r secret k k' (Err _) calls h = absurd h
+
+registrar_on : (o o' : Outside) (calls : Log) (c : RegistrarCommand) (calls' : Log) (line : List ℕ) → RegistrarDoes o o' calls c calls' line → GoesOn o o'
+unfolding RegistrarDoes
+registrar_on o o' calls (registrar.Register r) calls' line h =
+    and_on o h.then o' (draws_on 32 o h.then h.secret h.draws)
+    (asks_on h.then o' h.asks (register_on r h.secret h.then.keys o'.keys h.called.answer calls h.called.answers))
+registrar_on o o' calls (registrar.Activate a) calls' line h = same_on o o' h.0
+registrar_on o o' calls (registrar.Record a) calls' line h = same_on o o' h.0
+registrar_on o o' calls registrar.Records calls' line h = same_on o o' h.0
+registrar_on o o' calls (registrar.Forget a) calls' line h = same_on o o' h.0
+
 -- ---- a command, and several
 
 pub does_on : (o o' : Outside) (s : SessionFields) (c : CommandFields) (s' : SessionFields) (line : List ℕ) → Does o o' s c s' line → GoesOn o o'
 unfolding Does
 does_on o o' s nothing s' line h = same_on o o' h.0
-does_on o o' s (add a) s' line (inl (t, named, are, reads, h)) = reads_on o o' a.kind t.policy reads
-does_on o o' s (add a) s' line (inr (why, none, h)) = no_terms_on o o' a why none
-does_on o o' s (replace r) s' line (inl (p, is, reads, h)) = reads_on o o' r.kind p reads
-does_on o o' s (replace r) s' line (inr (why, none, h)) = refuses_on o o' r.kind r.policy why none
-does_on o o' s (reactivate a) s' line h = same_on o o' h.0
-does_on o o' s (stop a) s' line h = same_on o o' h.0
-does_on o o' s (remove a) s' line h = same_on o o' h.0
-does_on o o' s (now t) s' line h = same_on o o' h.0
-does_on o o' s (begin b) s' line h = nonce_on o o' b.nonce h.0 h.1
-does_on o o' s (reply r) s' line h = reply_on o o' r s s' line h
-does_on o o' s (state a) s' line h = same_on o o' h.0
+does_on o o' s (to_verifier c) s' line h = verifier_on o o' s.verifier c s'.verifier line h.0
+does_on o o' s (to_registrar c) s' line h = registrar_on o o' s.calls c s'.calls line h.0
 
 pub follows_on : (o o' : Outside) (s : SessionFields) (commands : List CommandFields) (lines : List (List ℕ)) (last : SessionFields)
     → Follows o o' s commands lines last → GoesOn o o'
@@ -185,44 +165,70 @@ follows_on o o' s (c ∷ commands) [] last h = absurd h
 follows_on o o' s (c ∷ commands) (l ∷ lines) last (then, next, does, follows) =
     and_on o then o' (does_on o then s c next l does) (follows_on then o' next commands lines last follows)
 
+verifier_dry : (o o' : Outside) (s : VerifierFields) (c : VerifierCommandFields) (s' : VerifierFields) → VerifierStopped NoNonce o o' s c s' → GoesOn o o'
+verifier_dry o o' s (begin b) s' h = none_on 16 o o' h.1.1
+verifier_dry o o' s _ s' h = absurd h.1
+
+registrar_dry : (o o' : Outside) (calls : Log) (c : RegistrarCommand) (calls' : Log) → RegistrarStopped NoNonce o o' calls c calls' → GoesOn o o'
+registrar_dry o o' calls (registrar.Register r) calls' h = none_on 32 o o' h.1
+registrar_dry o o' calls _ calls' h = absurd h.1
+
 pub dry_on : (o o' : Outside) (s : SessionFields) (c : CommandFields) (s' : SessionFields) → IsStopped NoNonce o o' s c s' → GoesOn o o'
-dry_on o o' s (begin b) s' h = none_on o o' h.1.1
-dry_on o o' s _ s' h = absurd h.1
+dry_on o o' s nothing s' h = absurd h
+dry_on o o' s (to_verifier c) s' h = verifier_dry o o' s.verifier c s'.verifier h.0
+dry_on o o' s (to_registrar c) s' h = registrar_dry o o' s.calls c s'.calls h.0
 
 -- ---- the history grows
 
-as_it_was : (s s' : SessionFields) → s'.history ≡ s.history → Grows s s'
+-- the records of the second come behind those of the first
+VerifierGrows : VerifierFields → VerifierFields → Type 0
+VerifierGrows s s' = (made : List Record) × (s'.history ≡ s.history ++ made)
+
+as_it_was : (s s' : VerifierFields) → s'.history ≡ s.history → VerifierGrows s s'
+unfolding VerifierGrows
 as_it_was s s' same = ([], same ∙ sym (append-nil s.history))
 
-by_call : {A : Type 0} {Answers : A → Past → Type 0} {makes : A → Past → List Record} {says : A → Option (List ℕ)} (s s' : SessionFields) (line : List ℕ)
-    → Answered Answers makes says s s' line → Grows s s'
-by_call {makes = makes} s s' line h = (makes h.answer (past_at s), ap (λ (z : SessionFields). z.history) h.after)
+by_call : {A : Type 0} {Answers : A → Past → Type 0} {makes : A → Past → List Record} {says : A → Option (List ℕ)} (s s' : VerifierFields) (line : List ℕ)
+    → Answered Answers makes says s s' line → VerifierGrows s s'
+unfolding VerifierGrows
+by_call {makes = makes} s s' line h = (makes h.answer (past_at s), ap (λ (z : VerifierFields). z.history) h.after)
+
+verifier_grows : (o o' : Outside) (s : VerifierFields) (c : VerifierCommandFields) (s' : VerifierFields) (line : List ℕ) → VerifierDoes o o' s c s' line
+    → VerifierGrows s s'
+unfolding VerifierDoes VerifierGrows
+verifier_grows o o' s (add a) s' line (inl (t, named, are, reads, h)) = by_call s s' line h
+verifier_grows o o' s (add a) s' line (inr (why, none, h)) = as_it_was s s' (ap (λ (z : VerifierFields). z.history) h.0)
+verifier_grows o o' s (replace r) s' line (inl (p, is, reads, h)) = by_call s s' line h
+verifier_grows o o' s (replace r) s' line (inr (why, none, h)) = as_it_was s s' (ap (λ (z : VerifierFields). z.history) h.0)
+verifier_grows o o' s (reactivate a) s' line h = by_call s s' line h.1
+verifier_grows o o' s (stop a) s' line h = by_call s s' line h.1
+verifier_grows o o' s (remove a) s' line h = by_call s s' line h.1
+verifier_grows o o' s (now t) s' line h = as_it_was s s' (ap (λ (z : VerifierFields). z.history) h.1)
+verifier_grows o o' s (begin b) s' line h = by_call s s' line h.2
+verifier_grows o o' s (reply r) s' line (inl f) = (f.made ∷ [], ap (λ (z : VerifierFields). z.history) f.after)
+verifier_grows o o' s (reply r) s' line (inr none) = as_it_was s s' (ap (λ (z : VerifierFields). z.history) none.1.1)
+verifier_grows o o' s (state a) s' line h = as_it_was s s' (ap (λ (z : VerifierFields). z.history) h.1)
+verifier_grows o o' s (lose p) s' line (same, inl f) = (lost_record f.ticket.poll Named f.closed.current ∷ [], ap (λ (z : VerifierFields). z.history) f.after)
+verifier_grows o o' s (lose p) s' line (same, inr none) = as_it_was s s' (ap (λ (z : VerifierFields). z.history) none.1)
+verifier_grows o o' s pick s' line h = as_it_was s s' (ap (λ (z : VerifierFields). z.history) h.1)
+verifier_grows o o' s notice s' line h = as_it_was s s' (ap (λ (z : VerifierFields). z.history) h.1)
+verifier_grows o o' s (noticed n) s' line h = as_it_was s s' (ap (λ (z : VerifierFields). z.history) h.1.after)
 
 pub does_grow : (o o' : Outside) (s : SessionFields) (c : CommandFields) (s' : SessionFields) (line : List ℕ) → Does o o' s c s' line → Grows s s'
-unfolding Does
-does_grow o o' s nothing s' line h = as_it_was s s' (ap (λ (z : SessionFields). z.history) h.1)
-does_grow o o' s (add a) s' line (inl (t, named, are, reads, h)) = by_call s s' line h
-does_grow o o' s (add a) s' line (inr (why, none, h)) = as_it_was s s' (ap (λ (z : SessionFields). z.history) h.0)
-does_grow o o' s (replace r) s' line (inl (p, is, reads, h)) = by_call s s' line h
-does_grow o o' s (replace r) s' line (inr (why, none, h)) = as_it_was s s' (ap (λ (z : SessionFields). z.history) h.0)
-does_grow o o' s (reactivate a) s' line h = by_call s s' line h.1
-does_grow o o' s (stop a) s' line h = by_call s s' line h.1
-does_grow o o' s (remove a) s' line h = by_call s s' line h.1
-does_grow o o' s (now t) s' line h = as_it_was s s' (ap (λ (z : SessionFields). z.history) h.1)
-does_grow o o' s (begin b) s' line h = by_call s s' line h.2
-does_grow o o' s (reply r) s' line (inl f) = (f.made ∷ [], ap (λ (z : SessionFields). z.history) f.after)
-does_grow o o' s (reply r) s' line (inr none) = as_it_was s s' (ap (λ (z : SessionFields). z.history) none.2)
-does_grow o o' s (state a) s' line h = as_it_was s s' (ap (λ (z : SessionFields). z.history) h.1)
+unfolding Does VerifierGrows
+does_grow o o' s nothing s' line h = as_it_was s.verifier s'.verifier (ap (λ (z : SessionFields). z.verifier.history) h.1)
+does_grow o o' s (to_verifier c) s' line h = verifier_grows o o' s.verifier c s'.verifier line h.0
+does_grow o o' s (to_registrar c) s' line h = as_it_was s.verifier s'.verifier (ap (λ (z : VerifierFields). z.history) h.1)
 
 pub follows_grow : (o o' : Outside) (s : SessionFields) (commands : List CommandFields) (lines : List (List ℕ)) (last : SessionFields)
     → Follows o o' s commands lines last → Grows s last
-follows_grow o o' s [] [] last h = as_it_was s last (ap (λ (z : SessionFields). z.history) h.1)
+follows_grow o o' s [] [] last h = ([], ap (λ (z : SessionFields). z.verifier.history) h.1 ∙ sym (append-nil s.verifier.history))
 follows_grow o o' s [] (l ∷ lines) last h = absurd h
 follows_grow o o' s (c ∷ commands) [] last h = absurd h
 follows_grow o o' s (c ∷ commands) (l ∷ lines) last (then, next, does, follows) =
     let first = does_grow o then s c next l does in
     let rest = follows_grow then o' next commands lines last follows in
-    (first.0 ++ rest.0, rest.1 ∙ ap (λ H. H ++ rest.0) first.1 ∙ append_assoc s.history first.0 rest.0)
+    (first.0 ++ rest.0, rest.1 ∙ ap (λ H. H ++ rest.0) first.1 ∙ append_assoc s.verifier.history first.0 rest.0)
 
 -- a beginning of a legal history is legal, and where nothing was wanting later nothing was before
 legal_before : (newer past : Past) → IsLegalPast (newer ++ past) → IsLegalPast past
@@ -236,5 +242,5 @@ lacked_nothing H made l = record {
       (All-take (λ r. is_short r ≡ false) (length H) (H ++ made) l.ample);
 }
 
-pub lacked_before : (s s' : SessionFields) → Grows s s' → LacksNothing s'.history → LacksNothing s.history
-lacked_before s s' (made, grown) l = lacked_nothing s.history made (subst LacksNothing grown l)
+pub lacked_before : (s s' : SessionFields) → Grows s s' → LacksNothing s'.verifier.history → LacksNothing s.verifier.history
+lacked_before s s' (made, grown) l = lacked_nothing s.verifier.history made (subst LacksNothing grown l)

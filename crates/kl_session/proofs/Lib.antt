@@ -6,7 +6,13 @@ pub mod Obeying
 pub mod OneNaming
 pub mod OneCall
 pub mod OneReply
+pub mod Moments
 pub mod GoingOn
+pub mod VerifierStep
+pub mod OneListing
+pub mod OneRegistrar
 pub mod OneStep
+pub mod Registered
 pub mod GoodReplies
 pub mod Readings
+pub mod Standing

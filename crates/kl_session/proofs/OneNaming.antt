@@ -1,5 +1,5 @@
 -- An add names one terms at most, or has one reason to name none: where no pattern was refused as too large.
-use Rattle.std.proofs.Common.{◌≡◌, ℕ, Bool, List, ◌++◌, Option, codes, refl, sym, ap, ◌∙◌, subst}
+use Rattle.std.proofs.Common.{◌≡◌, ℕ, List, ◌++◌, Option, codes, refl, sym, ap, ◌∙◌, subst}
 use Rattle.kl_bank.specs.declared.bank.Bank.{Bank}
 use Rattle.kl_io.specs.Calls.{Rose}
 use Rattle.kl_pcr.specs.declared.statics.Static.{Static}
@@ -10,6 +10,7 @@ use Rattle.kl_policy.specs.declared.fault.PolicyFault.{PolicyFault}
 use Rattle.kl_policy.proofs.OneFault.{one_policy, no_fault, one_named}
 use Rattle.kl_states.specs.declared.policy_kind.PolicyKind.{PolicyKind}
 use Rattle.kl_appraise.specs.Terms.{AreTerms, IsMask, TermsFields}
+use Rattle.kl_history.specs.Records.{History}
 use Rattle.kl_script.specs.declared.command.Add.{Add}
 use Rattle.kl_session.specs.Outside.{Outside}
 use Rattle.kl_session.specs.Texts.{no_terms_text}
@@ -55,19 +56,19 @@ one_policy_fault o o' p p' calm still kind text x y f g =
     (settled kind text o.maker o'.maker x calm f.because f.named) (settled kind text p.maker p'.maker y still g.because g.named))
 
 -- an add that names terms has no reason to name none
-pub no_terms_fault : (o o' : Outside) → NoRise o o' → (a : Add) (t : TermsFields) (why : NoTerms) → NamesTerms a t → AreTerms t → ¬ (NamesNoTerms o o' a why)
-no_terms_fault o o' calm a t (Policy why) named are bad = no_policy_fault o o' calm a.kind a.policy t.policy why named.policy bad
-no_terms_fault o o' calm a t Mask named are (_, other) = other (subst IsMask named.mask are.mask)
-no_terms_fault o o' calm a t StaticPcrs named are (_, mask, other) =
+pub no_terms_fault : (o o' : Outside) → NoRise o o' → (H : History) (a : Add) (t : TermsFields) (why : NoTerms) → NamesTerms a t → AreTerms t → ¬ (NamesNoTerms o o' H a why)
+no_terms_fault o o' calm H a t (Policy why) named are bad = no_policy_fault o o' calm a.kind a.policy t.policy why named.policy bad
+no_terms_fault o o' calm H a t Mask named are (_, other) = other (subst IsMask named.mask are.mask)
+no_terms_fault o o' calm H a t StaticPcrs named are (_, mask, other) =
     other (statics_at t.bank a.bank t.mask a.mask t.statics a.statics named.bank named.mask named.statics are.statics)
 
-pub one_terms_fault : (o o' p p' : Outside) → NoRise o o' → NoRise p p' → (a : Add) (x y : NoTerms) → NamesNoTerms o o' a x → NamesNoTerms p p' a y → no_terms_text x ≡ no_terms_text y
-one_terms_fault o o' p p' calm still a (Policy f) (Policy g) r s = one_policy_fault o o' p p' calm still a.kind a.policy f g r s
-one_terms_fault o o' p p' calm still a (Policy f) Mask r ((c, is, _), _) = absurd (no_policy_fault o o' calm a.kind a.policy c f is r)
-one_terms_fault o o' p p' calm still a (Policy f) StaticPcrs r ((c, is, _), _, _) = absurd (no_policy_fault o o' calm a.kind a.policy c f is r)
-one_terms_fault o o' p p' calm still a Mask (Policy g) ((c, is, _), _) s = absurd (no_policy_fault p p' still a.kind a.policy c g is s)
-one_terms_fault o o' p p' calm still a Mask Mask r s = refl
-one_terms_fault o o' p p' calm still a Mask StaticPcrs (_, other) (_, mask, _) = absurd (other mask)
-one_terms_fault o o' p p' calm still a StaticPcrs (Policy g) ((c, is, _), _, _) s = absurd (no_policy_fault p p' still a.kind a.policy c g is s)
-one_terms_fault o o' p p' calm still a StaticPcrs Mask (_, mask, _) (_, other) = absurd (other mask)
-one_terms_fault o o' p p' calm still a StaticPcrs StaticPcrs r s = refl
+pub one_terms_fault : (o o' p p' : Outside) → NoRise o o' → NoRise p p' → (H : History) (a : Add) (x y : NoTerms) → NamesNoTerms o o' H a x → NamesNoTerms p p' H a y → no_terms_text x ≡ no_terms_text y
+one_terms_fault o o' p p' calm still H a (Policy f) (Policy g) r s = one_policy_fault o o' p p' calm still a.kind a.policy f g r s
+one_terms_fault o o' p p' calm still H a (Policy f) Mask r ((c, is, _), _) = absurd (no_policy_fault o o' calm a.kind a.policy c f is r)
+one_terms_fault o o' p p' calm still H a (Policy f) StaticPcrs r ((c, is, _), _, _) = absurd (no_policy_fault o o' calm a.kind a.policy c f is r)
+one_terms_fault o o' p p' calm still H a Mask (Policy g) ((c, is, _), _) s = absurd (no_policy_fault p p' still a.kind a.policy c g is s)
+one_terms_fault o o' p p' calm still H a Mask Mask r s = refl
+one_terms_fault o o' p p' calm still H a Mask StaticPcrs (_, other) (_, mask, _) = absurd (other mask)
+one_terms_fault o o' p p' calm still H a StaticPcrs (Policy g) ((c, is, _), _, _) s = absurd (no_policy_fault p p' still a.kind a.policy c g is s)
+one_terms_fault o o' p p' calm still H a StaticPcrs Mask (_, mask, _) (_, other) = absurd (other mask)
+one_terms_fault o o' p p' calm still H a StaticPcrs StaticPcrs r s = refl

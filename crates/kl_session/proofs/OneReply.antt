@@ -28,15 +28,18 @@ use Rattle.kl_history.specs.Accepted.{WasAccepted}
 use Rattle.kl_history.specs.Legal.{IsLegalPast, Legal, IsCaseOf}
 use Rattle.kl_history.proofs.OwnRecords.{begin_at, was_accepted}
 use Rattle.kl_history.proofs.OneStanding.{are_one}
+use Rattle.kl_states.specs.declared.outcome.LostWhy.TheVariants.{Named}
 use Rattle.kl_core.specs.declared.closed.Closed.{Closed}
-use Rattle.kl_core.specs.Closes.{IsClosed, closed_by, record_by}
+use Rattle.kl_core.specs.declared.closed.ClosedAs.TheVariants.{Lost}
+use Rattle.kl_core.specs.Closes.{IsClosed, closed_by, record_by, lost_record}
 use Rattle.kl_core.specs.Tickets.{IsOpenTicket}
 use Rattle.kl_core.proofs.OneAnswer.{same_tickets, one_close_by}
 use Rattle.kl_session.specs.Outside.{Outside}
-use Rattle.kl_session.specs.Calls.{SessionFields, past as past_at, with_more}
+use Rattle.kl_session.specs.Calls.{VerifierFields, past as past_at, with_more, FindsNoPoll}
 use Rattle.kl_session.specs.Texts.{closed_line}
 use Rattle.kl_session.specs.Replies.{Appraisal, Finds, Unanswered, Short, fields_of, IsFinding, Went, closed_as, closing_record}
-use Rattle.kl_session.specs.Replies.{ClosesPoll, FindsNoPoll, DoesReply}
+use Rattle.kl_session.specs.Losing.{LosesPoll, DoesLose}
+use Rattle.kl_session.specs.Replies.{ClosesPoll, DoesReply}
 use Rattle.kl_session.specs.Unique.{is_short, LacksNothing}
 use Rattle.kl_session.proofs.Opened.{all_right}
 
@@ -139,18 +142,18 @@ pub record Answering (relations : Relations) (o o' : Outside) : Type 0 where
   pub related : o.keys.relations ≡ Some relations
   pub faultless : ¬ (Rose o.keys.calls.faults o'.keys.calls.faults)
 
-made_ample : (s x : SessionFields) (made : Record) → x ≡ with_more (made ∷ []) s → LacksNothing x.history → is_short made ≡ false
+made_ample : (s x : VerifierFields) (made : Record) → x ≡ with_more (made ∷ []) s → LacksNothing x.history → is_short made ≡ false
 made_ample s x made after unwanting =
-    let all = subst (λ (z : SessionFields). All (λ r. is_short r ≡ false) z.history) after unwanting.ample in
+    let all = subst (λ (z : VerifierFields). All (λ r. is_short r ≡ false) z.history) after unwanting.ample in
     All-head (λ r. is_short r ≡ false) made [] (all_right (λ r. is_short r ≡ false) s.history (made ∷ []) all)
 
-closes_as : (relations : Relations) (o o' : Outside) (r : ReplyFields) (s x : SessionFields) (l : List ℕ) (h : ClosesPoll o o' r s x l)
+closes_as : (relations : Relations) (o o' : Outside) (r : ReplyFields) (s x : VerifierFields) (l : List ℕ) (h : ClosesPoll o o' r s x l)
     → ¬ (Rose o.keys.calls.faults o'.keys.calls.faults) → LacksNothing x.history → ClosesAs o o' (past_at s) h.ticket h.evidence h.made h.closed
 closes_as relations o o' r s x l h faultless unwanting =
     finds o o' (past_at s) h.ticket h.evidence h.made h.closed h.closes.appraisal faultless (made_ample s x h.made h.after unwanting)
     h.closes.went h.closes.by_record h.closes.told
 
-pub one_poll_closed : (relations : Relations) (o o' p p' : Outside) (r : ReplyFields) (s x y : SessionFields) (l m : List ℕ) → Legal s.history
+pub one_poll_closed : (relations : Relations) (o o' p p' : Outside) (r : ReplyFields) (s x y : VerifierFields) (l m : List ℕ) → Legal s.history
     → Answering relations o o' → Answering relations p p' → LacksNothing x.history → LacksNothing y.history
     → ClosesPoll o o' r s x l → ClosesPoll p p' r s y m → (x ≡ y) × (l ≡ m)
 one_poll_closed relations o o' p p' r s x y l m legal first second f_ample g_ample f g =
@@ -165,16 +168,37 @@ one_poll_closed relations o o' p p' r s x y l m legal first second f_ample g_amp
     (f.after ∙ ap (λ (z : Record). with_more (z ∷ []) s) same.0 ∙ sym g.after, f.said ∙ ap closed_line same.1 ∙ sym g.said)
 
 -- a reply to an open poll is not refused
-not_both : (o o' p p' : Outside) (r : ReplyFields) (s x y : SessionFields) (l m : List ℕ) → ClosesPoll o o' r s x l → ¬ (FindsNoPoll p p' r s y m)
-not_both o o' p p' r s x y l m f (shut, _, _, _) =
-    let poll : f.ticket.poll ≡ r.poll = ap (λ (z : ReplyFields). z.poll) f.carries in
-    false≢true (sym shut ∙ ap (λ q. is_open (past_at s) q) (sym poll) ∙ f.opened.0)
+not_both : (p : ℕ) (s y : VerifierFields) (m : List ℕ) (t : TicketFields) → IsOpenTicket (past_at s) t → t.poll ≡ p → ¬ (FindsNoPoll p s y m)
+not_both p s y m t opened poll (shut, _, _) = false≢true (sym shut ∙ ap (λ q. is_open (past_at s) q) (sym poll) ∙ opened.0)
 
-pub one_reply : (relations : Relations) (o o' p p' : Outside) (r : ReplyFields) (s x y : SessionFields) (l m : List ℕ) → Legal s.history
+one_refusal : (p : ℕ) (s x y : VerifierFields) (l m : List ℕ) → FindsNoPoll p s x l → FindsNoPoll p s y m → (x ≡ y) × (l ≡ m)
+one_refusal p s x y l m (_, to, says) (_, on, speaks) = (to ∙ sym on, says ∙ sym speaks)
+
+pub one_reply : (relations : Relations) (o o' p p' : Outside) (r : ReplyFields) (s x y : VerifierFields) (l m : List ℕ) → Legal s.history
     → Answering relations o o' → Answering relations p p' → LacksNothing x.history → LacksNothing y.history
     → DoesReply o o' r s x l → DoesReply p p' r s y m → (x ≡ y) × (l ≡ m)
 one_reply relations o o' p p' r s x y l m legal first second f_ample g_ample (inl f) (inl g) =
     one_poll_closed relations o o' p p' r s x y l m legal first second f_ample g_ample f g
-one_reply relations o o' p p' r s x y l m legal first second f_ample g_ample (inl f) (inr g) = absurd (not_both o o' p p' r s x y l m f g)
-one_reply relations o o' p p' r s x y l m legal first second f_ample g_ample (inr f) (inl g) = absurd (not_both p p' o o' r s y x m l g f)
-one_reply relations o o' p p' r s x y l m legal first second f_ample g_ample (inr (_, _, to, says)) (inr (_, _, on, speaks)) = (to ∙ sym on, says ∙ sym speaks)
+one_reply relations o o' p p' r s x y l m legal first second f_ample g_ample (inl f) (inr g) =
+    absurd (not_both r.poll s y m f.ticket f.opened (ap (λ (z : ReplyFields). z.poll) f.carries) g.1)
+one_reply relations o o' p p' r s x y l m legal first second f_ample g_ample (inr f) (inl g) =
+    absurd (not_both r.poll s x l g.ticket g.opened (ap (λ (z : ReplyFields). z.poll) g.carries) f.1)
+one_reply relations o o' p p' r s x y l m legal first second f_ample g_ample (inr f) (inr g) = one_refusal r.poll s x y l m f.1 g.1
+
+-- ---- a poll that is given up as lost
+
+one_loss_of : (p : ℕ) (s x y : VerifierFields) (l m : List ℕ) → LosesPoll p s x l → LosesPoll p s y m → (x ≡ y) × (l ≡ m)
+one_loss_of p s x y l m f g =
+    let ticket = one_open_ticket (past_at s) f.ticket g.ticket (f.poll ∙ sym g.poll) f.opened g.opened in
+    let told = subst (λ (t : TicketFields). IsClosed (past_at s) (lost_record t.poll Named g.closed.current) t (Lost Named) g.closed) (sym ticket) g.told in
+    let same = one_close_by (past_at s) (lost_record f.ticket.poll Named) f.ticket (Lost Named) f.closed g.closed f.told told in (
+      f.after ∙ ap (λ (c : Closed). with_more (lost_record f.ticket.poll Named c.current ∷ []) s) same
+          ∙ ap (λ (t : TicketFields). with_more (lost_record t.poll Named g.closed.current ∷ []) s) ticket ∙ sym g.after,
+      f.said ∙ ap closed_line same ∙ sym g.said,
+    )
+
+pub one_lose : (p : ℕ) (s x y : VerifierFields) (l m : List ℕ) → DoesLose p s x l → DoesLose p s y m → (x ≡ y) × (l ≡ m)
+one_lose p s x y l m (inl f) (inl g) = one_loss_of p s x y l m f g
+one_lose p s x y l m (inl f) (inr g) = absurd (not_both p s y m f.ticket f.opened f.poll g)
+one_lose p s x y l m (inr f) (inl g) = absurd (not_both p s x l g.ticket g.opened g.poll f)
+one_lose p s x y l m (inr f) (inr g) = one_refusal p s x y l m f g

@@ -1,122 +1,99 @@
 -- What a command does follows from the session that it finds, and so does what commands do one after the other.
-use Rattle.std.proofs.Common.{◌≡◌, ℕ, ◌<◌, ◌≤◌, List, [], ◌∷◌, ◌++◌, length, take, Option, Some, None, inl, inr, refl, sym, ap, ◌∙◌, subst, arith}
+use Rattle.std.proofs.Common.{◌≡◌, ℕ, ◌<◌, ◌≤◌, List, [], ◌∷◌, ◌++◌, length, Option, Some, inl, inr, refl, sym, ap, ◌∙◌, subst, arith}
 use Rattle.std.proofs.Common.{length-append, append-nil}
-use Rattle.std.proofs.lemmas.List.{append_cancel_left}
-use Rattle.std.proofs.Math.Seq.{take-append_seam}
 use Rattle.std.proofs.lemmas.Option.{same_Some}
-use Rattle.hex.specs.Hex.{encode_lower}
 use Rattle.kl_io.specs.Told.{WordsTold}
 use Rattle.kl_keys.specs.Relations.{Relations}
-use Rattle.kl_script.specs.declared.command.Begin.{Begin}
-use Rattle.kl_script.specs.Commands.{ReplyFields, CommandFields, nothing, add, replace, reactivate, stop, remove, now, begin, reply, state}
+use Rattle.kl_keys.specs.Told.{KeysTold}
+use Rattle.kl_registrar.specs.Calls.{Log}
+use Rattle.kl_script.specs.declared.command.Register.{Register}
+use Rattle.kl_script.specs.declared.command.RegistrarCommand.{RegistrarCommand}
+use Rattle.kl_script.specs.declared.command.RegistrarCommand.TheVariants as registrar
+use Rattle.kl_script.specs.Commands.{VerifierCommandFields, begin, CommandFields, nothing, to_verifier, to_registrar}
 use Rattle.kl_history.specs.Legal.{Legal}
 use Rattle.kl_session.specs.declared.stop.Stop.TheVariants.{NoNonce}
-use Rattle.kl_script.specs.declared.command.Add.{Add}
-use Rattle.kl_script.specs.declared.command.Replace.{Replace}
-use Rattle.kl_session.specs.declared.naming.NoTerms.TheVariants.{Policy, Mask, Static}
-use Rattle.kl_session.specs.Installs.{DoesAdd, DoesReplace}
 use Rattle.kl_session.specs.Outside.{Outside}
-use Rattle.kl_session.specs.Calls.{SessionFields}
-use Rattle.kl_session.specs.Polls.{Draws, HasNonce, BeginsWith, DoesBegin}
-use Rattle.kl_session.specs.Replies.{DoesReply}
-use Rattle.kl_session.specs.Stopped.{HasFewer, DrawsNone, IsStopped}
+use Rattle.kl_session.specs.Calls.{VerifierFields, SessionFields, Called}
+use Rattle.kl_session.specs.Drawing.{Draws, HasFewer, DrawsNone}
+use Rattle.kl_session.specs.Polls.{HasNonce}
+use Rattle.kl_session.specs.Registering.{DoesRegister, RegistrarDoes, RegisterAnswers, register_makes, says_blob}
+use Rattle.kl_session.specs.Stopped.{VerifierStopped, RegistrarStopped, IsStopped}
+use Rattle.kl_session.specs.Verifying.{VerifierDoes}
 use Rattle.kl_session.specs.Session.{Does, Follows}
 use Rattle.kl_session.specs.Unique.{LacksNothing, IsFaultless, GoesOn, Steps, Runs, GoesThrough, IsDry}
-use Rattle.kl_session.proofs.OneCall.{one_add_done, one_replace_done, one_reactivate_done, one_stop_done, one_remove_done, one_begin_done, one_standing}
-use Rattle.kl_session.proofs.OneReply.{Answering, one_reply}
-use Rattle.kl_session.proofs.GoingOn.{consumed, does_on, follows_on, does_grow, follows_grow, lacked_before}
+use Rattle.kl_session.proofs.VerifierStep.{SameLeft, one_draw, untouched, undrawn, verifier_alike}
+use Rattle.kl_session.proofs.OneRegistrar.{AnswerBy, one_call, one_register, one_activate, one_record, one_records, one_forget}
+use Rattle.kl_session.proofs.Moments.{consumed}
+use Rattle.kl_session.proofs.GoingOn.{does_on, follows_on, does_grow, follows_grow, lacked_before}
 
--- ---- a nonce that is drawn is the front of what is left
+-- ---- a command to the registrar
 
-same_front : (xs ys vs ws : List ℕ) → length xs ≡ length vs → xs ++ ys ≡ vs ++ ws → (xs ≡ vs) × (ys ≡ ws)
-same_front xs ys vs ws long same =
-    let front : xs ≡ vs = sym (take-append_seam xs ys) ∙ ap (λ n. take n (xs ++ ys)) long ∙ ap (λ l. take (length vs) l) same ∙ take-append_seam vs ws in
-    (front, append_cancel_left vs ys ws (ap (λ f. f ++ ys) (sym front) ∙ same))
+-- the same calls that were done, line and words left
+AreAlikeCalls : Log → Log → List ℕ → List ℕ → Outside → Outside → Type 0
+AreAlikeCalls x y l m o p = (x ≡ y) × (l ≡ m) × SameLeft o p
 
--- the words that two moments know to be left are the same
-SameLeft : Outside → Outside → Type 0
-SameLeft o p = o.words.left ≡ p.words.left
+answers_by : (relations : Relations) (words : List ℕ) (o then o' : Outside) → IsFaultless relations words o o' → then.keys ≡ o.keys
+    → AnswerBy relations then.keys o'.keys
+answers_by relations words o then o' f same = record {
+  related = ap (λ (k : KeysTold). k.relations) same ∙ f.related;
+  faultless = λ rose. f.keys (omega (arith, rose, ap (λ (k : KeysTold). k.calls.faults) same));
+}
 
-one_nonce : (words : List ℕ) (o o' p p' : Outside) (named : Option (List ℕ)) (n m : List ℕ) → o.words.left ≡ Some words → p.words.left ≡ Some words
-    → HasNonce o o' named n → HasNonce p p' named m → (n ≡ m) × SameLeft o' p'
-unfolding SameLeft
-one_nonce words o o' p p' (Some named) n m first second f g =
-    (f.1 ∙ sym g.1, ap (λ (z : Outside). z.words.left) f.0 ∙ first ∙ sym second ∙ ap (λ (z : Outside). z.words.left) (sym g.0))
-one_nonce words o o' p p' None n m first second f g =
-    let a = consumed words o.words.left o'.words.left f.drawn first f.taken in
-    let b = consumed words p.words.left p'.words.left g.drawn second g.taken in
-    let same = same_front f.drawn a.0 g.drawn b.0 (f.counted ∙ sym g.counted) (sym a.2 ∙ b.2) in
-    (f.digits ∙ ap (λ d. encode_lower d) same.0 ∙ sym g.digits, a.1 ∙ ap Some same.1 ∙ sym b.1)
+module _ (relations : Relations) (words : List ℕ) (o o' p p' : Outside) (f : IsFaultless relations words o o') (g : IsFaultless relations words p p') where
+  calls_alike : (x y : Log) (l m : List ℕ) → (x ≡ y) × (l ≡ m) → o' ≡ o → p' ≡ p → AreAlikeCalls x y l m o' p'
+  unfolding AreAlikeCalls
+  calls_alike x y l m same first second = (same.0, same.1, untouched words o o' p p' f.left g.left (undrawn o o' first) (undrawn p p' second))
+
+  register_alike : (r : Register) (calls x y : Log) (l m : List ℕ) → DoesRegister o o' r calls x l → DoesRegister p p' r calls y m → AreAlikeCalls x y l m o' p'
+  unfolding AreAlikeCalls
+  register_alike r calls x y l m does acts =
+      let drawn = one_draw 32 words o does.then p acts.then does.secret acts.secret f.left g.left does.draws acts.draws in
+      let acting = subst (λ (s : List ℕ). Called (RegisterAnswers r s acts.then.keys p'.keys) (register_makes r s) (says_blob r.agent) calls y m) (sym drawn.0) acts.called in
+      let one = one_register relations r does.secret calls does.then.keys o'.keys acts.then.keys p'.keys
+      (answers_by relations words o does.then o' f does.draws.keys) (answers_by relations words p acts.then p' g acts.draws.keys) in
+      let same = one_call one does.called acting in
+      let left : o'.words.left ≡ p'.words.left =
+      ap (λ (w : WordsTold). w.left) does.asks.words ∙ drawn.1 ∙ ap (λ (w : WordsTold). w.left) (sym acts.asks.words) in
+      (same.0, same.1, left)
+
+  registrar_alike : (c : RegistrarCommand) (calls x y : Log) (l m : List ℕ) → RegistrarDoes o o' calls c x l → RegistrarDoes p p' calls c y m
+      → AreAlikeCalls x y l m o' p'
+  unfolding RegistrarDoes
+  registrar_alike (registrar.Register r) calls x y l m does acts = register_alike r calls x y l m does acts
+  registrar_alike (registrar.Activate a) calls x y l m (e, does) (d, acts) = calls_alike x y l m (one_call (one_activate a calls) does acts) e d
+  registrar_alike (registrar.Record a) calls x y l m (e, does) (d, acts) = calls_alike x y l m (one_call (one_record a calls) does acts) e d
+  registrar_alike registrar.Records calls x y l m (e, does) (d, acts) = calls_alike x y l m (one_call (one_records calls) does acts) e d
+  registrar_alike (registrar.Forget a) calls x y l m (e, does) (d, acts) = calls_alike x y l m (one_call (one_forget a calls) does acts) e d
 
 -- ---- a command
 
-untouched : (words : List ℕ) (o o' p p' : Outside) → o.words.left ≡ Some words → p.words.left ≡ Some words → o'.words ≡ o.words → p'.words ≡ p.words
-    → SameLeft o' p'
-unfolding SameLeft
-untouched words o o' p p' first second f g =
-    ap (λ (z : WordsTold). z.left) f ∙ first ∙ sym second ∙ ap (λ (z : WordsTold). z.left) (sym g)
-
-undrawn : (o o' : Outside) → o' ≡ o → o'.words ≡ o.words
-undrawn o o' same = ap (λ (z : Outside). z.words) same
-
-reply_undrawn : (o o' : Outside) (r : ReplyFields) (s s' : SessionFields) (line : List ℕ) → DoesReply o o' r s s' line → o'.words ≡ o.words
-reply_undrawn o o' r s s' line (inl f) = f.closes.undrawn
-reply_undrawn o o' r s s' line (inr none) = undrawn o o' none.1
-
-add_undrawn : (o o' : Outside) (a : Add) (s s' : SessionFields) (line : List ℕ) → DoesAdd o o' a s s' line → o'.words ≡ o.words
-add_undrawn o o' a s s' line (inl (t, named, are, reads, h)) = reads.rest.words
-add_undrawn o o' a s s' line (inr (Policy why, none, h)) = none.rest.words
-add_undrawn o o' a s s' line (inr (Mask, none, h)) = none.0.2.rest.words
-add_undrawn o o' a s s' line (inr (Static, none, h)) = none.0.2.rest.words
-
-replace_undrawn : (o o' : Outside) (r : Replace) (s s' : SessionFields) (line : List ℕ) → DoesReplace o o' r s s' line → o'.words ≡ o.words
-replace_undrawn o o' r s s' line (inl (p, is, reads, h)) = reads.rest.words
-replace_undrawn o o' r s s' line (inr (why, none, h)) = none.rest.words
-
-answering : (relations : Relations) (words : List ℕ) (o o' : Outside) → IsFaultless relations words o o' → Answering relations o o'
-answering relations words o o' f = record { related = f.related; faultless = f.keys }
-
 -- the same session, line and words left
-AreAlike : SessionFields → SessionFields → List ℕ → List ℕ → Outside → Outside → Type 0
-AreAlike x y l m o p = (x ≡ y) × (l ≡ m) × SameLeft o p
+AreOne : SessionFields → SessionFields → List ℕ → List ℕ → Outside → Outside → Type 0
+AreOne x y l m o p = (x ≡ y) × (l ≡ m) × SameLeft o p
+
+session_by : VerifierFields → Log → SessionFields
+session_by verifier calls = record { verifier = verifier; calls = calls }
+
+same_session : (x y : SessionFields) → x.verifier ≡ y.verifier → x.calls ≡ y.calls → x ≡ y
+unfolding session_by
+same_session x y verifier calls = ap (λ v. session_by v x.calls) verifier ∙ ap (λ c. session_by y.verifier c) calls
 
 module _ (relations : Relations) (words : List ℕ) (o o' p p' : Outside) (f : IsFaultless relations words o o') (g : IsFaultless relations words p p') where
-  alike : (x y : SessionFields) (l m : List ℕ) → (x ≡ y) × (l ≡ m) → o' ≡ o → p' ≡ p → AreAlike x y l m o' p'
-  unfolding AreAlike
-  alike x y l m same first second = (same.0, same.1, untouched words o o' p p' f.left g.left (undrawn o o' first) (undrawn p p' second))
-
-  begin_alike : (b : Begin) (s x y : SessionFields) (l m : List ℕ) → Legal s.history → DoesBegin o o' b s x l → DoesBegin p p' b s y m
-      → AreAlike x y l m o' p'
-  unfolding AreAlike
-  begin_alike b s x y l m legal (n, has, does) (k, also, acts) =
-      let drawn = one_nonce words o o' p p' b.nonce n k f.left g.left has also in
-      let same = one_begin_done b.agent n s x y l m legal does (subst (λ (nonce : List ℕ). BeginsWith b.agent nonce s y m) (sym drawn.0) acts) in
-      (same.0, same.1, drawn.1)
-
-  does_alike : (s : SessionFields) (c : CommandFields) (x y : SessionFields) (l m : List ℕ) → Legal s.history → LacksNothing x.history
-      → LacksNothing y.history
-      → Does o o' s c x l → Does p p' s c y m → AreAlike x y l m o' p'
-  unfolding Does AreAlike
-  does_alike s nothing x y l m legal _ _ (a, to, says) (b, on, speaks) = alike x y l m (to ∙ sym on, says ∙ sym speaks) a b
-  does_alike s (add c) x y l m legal _ _ does acts =
-      let same = one_add_done o o' p p' f.made g.made c s x y l m does acts in
-      (same.0, same.1, untouched words o o' p p' f.left g.left (add_undrawn o o' c s x l does) (add_undrawn p p' c s y m acts))
-  does_alike s (replace c) x y l m legal _ _ does acts =
-      let same = one_replace_done o o' p p' f.made g.made c s x y l m does acts in
-      (same.0, same.1, untouched words o o' p p' f.left g.left (replace_undrawn o o' c s x l does) (replace_undrawn p p' c s y m acts))
-  does_alike s (reactivate c) x y l m legal _ _ (a, does) (b, acts) = alike x y l m (one_reactivate_done c s x y l m does acts) a b
-  does_alike s (stop c) x y l m legal _ _ (a, does) (b, acts) = alike x y l m (one_stop_done c s x y l m does acts) a b
-  does_alike s (remove c) x y l m legal _ _ (a, does) (b, acts) = alike x y l m (one_remove_done c s x y l m does acts) a b
-  does_alike s (now t) x y l m legal _ _ (a, to, says) (b, on, speaks) = alike x y l m (to ∙ sym on, says ∙ sym speaks) a b
-  does_alike s (begin c) x y l m legal _ _ does acts = begin_alike c s x y l m legal does acts
-  does_alike s (reply r) x y l m legal h k does acts =
-      let same = one_reply relations o o' p p' r s x y l m legal (answering relations words o o' f) (answering relations words p p' g) h k does acts in
-      (same.0, same.1, untouched words o o' p p' f.left g.left (reply_undrawn o o' r s x l does) (reply_undrawn p p' r s y m acts))
-  does_alike s (state c) x y l m legal _ _ (a, to, says) (b, on, speaks) = alike x y l m (to ∙ sym on, one_standing c s l m says speaks) a b
+  does_alike : (s : SessionFields) (c : CommandFields) (x y : SessionFields) (l m : List ℕ) → Legal s.verifier.history
+      → LacksNothing x.verifier.history → LacksNothing y.verifier.history → Does o o' s c x l → Does p p' s c y m → AreOne x y l m o' p'
+  unfolding Does AreOne AreAlikeCalls
+  does_alike s nothing x y l m legal _ _ (a, to, says) (b, on, speaks) =
+      (to ∙ sym on, says ∙ sym speaks, untouched words o o' p p' f.left g.left (undrawn o o' a) (undrawn p p' b))
+  does_alike s (to_verifier c) x y l m legal h k (does, calls) (acts, others) =
+      let same = verifier_alike relations words o o' p p' f g s.verifier c x.verifier y.verifier l m legal h k does acts in
+      (same_session x y same.0 (calls ∙ sym others), same.1, same.2)
+  does_alike s (to_registrar c) x y l m legal h k (does, verifier) (acts, other) =
+      let same = registrar_alike relations words o o' p p' f g c s.calls x.calls y.calls l m does acts in
+      (same_session x y (verifier ∙ sym other) same.0, same.1, same.2)
 
 pub one_step : (relations : Relations) (words : List ℕ) (s : SessionFields) (c : CommandFields) (x y : SessionFields) (l m v u : List ℕ)
     → Steps relations words s c x l v → Steps relations words s c y m u → (x ≡ y) × (l ≡ m) × (v ≡ u)
-unfolding AreAlike SameLeft
+unfolding AreOne
 one_step relations words s c x y l m v u f g =
     let legal = (lacked_before s x (does_grow f.before f.after s c x l f.does) f.unwanting).legal in
     let same = does_alike relations words f.before f.after g.before g.after f.faultless g.faultless s c x y l m legal f.unwanting g.unwanting f.does g.does in
@@ -124,34 +101,66 @@ one_step relations words s c x y l m v u f g =
 
 -- ---- too few words
 
-enough : (words : List ℕ) (o o' : Outside) (n : List ℕ) → o.words.left ≡ Some words → Draws o o' n → 16 ≤ length words
-enough words o o' n is d =
-    let a = consumed words o.words.left o'.words.left d.drawn is d.taken in
-    omega (arith, d.counted, ap (λ (l : List ℕ). length l) a.2, length-append d.drawn a.0)
+enough : (n : ℕ) (words : List ℕ) (o o' : Outside) (drawn : List ℕ) → o.words.left ≡ Some words → Draws n o o' drawn → n ≤ length words
+enough n words o o' drawn is d =
+    let a = consumed words o.words.left o'.words.left drawn is d.taken in
+    omega (arith, d.counted, ap (λ (l : List ℕ). length l) a.2, length-append drawn a.0)
 
-too_few : (relations : Relations) (words : List ℕ) (o o' : Outside) → IsFaultless relations words o o' → DrawsNone o o' → length words < 16
-too_few relations words o o' f d = elim d.cause [
+too_few : (n : ℕ) (relations : Relations) (words : List ℕ) (o o' : Outside) → IsFaultless relations words o o' → DrawsNone n o o' → length words < n
+too_few n relations words o o' f d = elim d.cause [
   | inl met ↦ absurd (f.drawn (omega (arith, (met.met tt).0)))
-  | inr few ↦ subst (λ (left : Option (List ℕ)). HasFewer left 16) f.left few.0
+  | inr few ↦ subst (λ (left : Option (List ℕ)). HasFewer left n) f.left few.0
 ]
 
 pub not_dry : (relations : Relations) (words : List ℕ) (s : SessionFields) (c : CommandFields) (x y : SessionFields) (l v u : List ℕ)
     → Steps relations words s c x l v → ¬ (IsDry relations words s c y u)
-unfolding Does
+unfolding Does VerifierDoes RegistrarDoes
 not_dry relations words s c x y l v u f g = by_command c f.does g.stopped where
-  by_command : (d : CommandFields) → Does f.before f.after s d x l → IsStopped NoNonce g.before g.after s d y → ⊥
-  by_command (begin b) does (_, (unnamed, none)) =
+  few : (n : ℕ) (then : Outside) (drawn : List ℕ) → Draws n f.before then drawn → DrawsNone n g.before g.after → ⊥
+  few n then drawn draws none =
+      omega (arith, enough n words f.before then drawn f.faultless.left draws, too_few n relations words g.before g.after g.faultless none)
+
+  by_verifier : (d : VerifierCommandFields) → VerifierDoes f.before f.after s.verifier d x.verifier l
+      → VerifierStopped NoNonce g.before g.after s.verifier d y.verifier → ⊥
+  by_verifier (begin b) does (_, (unnamed, none)) =
       let draws = subst (λ (named : Option (List ℕ)). HasNonce f.before f.after named does.0) unnamed does.1 in
-      let few = too_few relations words g.before g.after g.faultless none in
-      omega (arith, enough words f.before f.after does.0 f.faultless.left draws, few)
-  by_command _ does stopped = stopped.1
+      few 16 f.after draws.0 draws.1 none
+  by_verifier _ does stopped = stopped.1
+
+  by_registrar : (d : RegistrarCommand) → RegistrarDoes f.before f.after s.calls d x.calls l
+      → RegistrarStopped NoNonce g.before g.after s.calls d y.calls → ⊥
+  by_registrar (registrar.Register r) does (_, none) = few 32 does.then does.secret does.draws none
+  by_registrar _ does stopped = stopped.1
+
+  by_command : (d : CommandFields) → Does f.before f.after s d x l → IsStopped NoNonce g.before g.after s d y → ⊥
+  by_command nothing does stopped = stopped
+  by_command (to_verifier d) does stopped = by_verifier d does.0 stopped.0
+  by_command (to_registrar d) does stopped = by_registrar d does.0 stopped.0
+
+-- where no words can be drawn, nothing changes
+pub dry_stays : (o o' : Outside) (s : SessionFields) (c : CommandFields) (s' : SessionFields) → IsStopped NoNonce o o' s c s' → s' ≡ s
+dry_stays o o' s nothing s' h = absurd h
+dry_stays o o' s (to_verifier c) s' h = same_session s' s h.0.0 h.1
+dry_stays o o' s (to_registrar c) s' h = same_session s' s h.1 h.0.0
 
 pub one_dry : (relations : Relations) (words : List ℕ) (s : SessionFields) (c : CommandFields) (x : SessionFields) (rest : List ℕ)
     → IsDry relations words s c x rest → (x ≡ s) × (rest ≡ words)
-one_dry relations words s c x rest f = (f.stopped.0, by_command c f.stopped) where
+one_dry relations words s c x rest f = (dry_stays f.before f.after s c x f.stopped, by_command c f.stopped) where
+  none_left : (n : ℕ) → DrawsNone n f.before f.after → rest ≡ words
+  none_left n none = same_Some rest words (sym f.left ∙ none.left ∙ f.faultless.left)
+
+  by_verifier : (d : VerifierCommandFields) → VerifierStopped NoNonce f.before f.after s.verifier d x.verifier → rest ≡ words
+  by_verifier (begin b) (_, (_, none)) = none_left 16 none
+  by_verifier _ stopped = absurd stopped.1
+
+  by_registrar : (d : RegistrarCommand) → RegistrarStopped NoNonce f.before f.after s.calls d x.calls → rest ≡ words
+  by_registrar (registrar.Register r) (_, none) = none_left 32 none
+  by_registrar _ stopped = absurd stopped.1
+
   by_command : (d : CommandFields) → IsStopped NoNonce f.before f.after s d x → rest ≡ words
-  by_command (begin b) (_, (_, none)) = same_Some rest words (sym f.left ∙ none.left ∙ f.faultless.left)
-  by_command _ stopped = absurd stopped.1
+  by_command nothing stopped = absurd stopped
+  by_command (to_verifier d) stopped = by_verifier d stopped.0
+  by_command (to_registrar d) stopped = by_registrar d stopped.0
 
 -- ---- commands, one after the other
 

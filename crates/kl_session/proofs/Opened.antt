@@ -1,15 +1,15 @@
 -- The tickets of the open polls, as records come and polls close.
-use Rattle.std.proofs.Common.{◌≡◌, ℕ, ◌+◌, ◌<◌, ◌≤◌, Bool, true, false, not, ◌&&◌, ◌||◌, cond, List, [], ◌∷◌, ◌++◌, map, length, Some, inl, inr, refl, ap, sym, ◌∙◌, subst, arith, append_assoc, append-nil, reverse, suc, zero}
+use Rattle.std.proofs.Common.{◌≡◌, ℕ, ◌<◌, Bool, true, false, not, ◌&&◌, ◌||◌, List, [], ◌∷◌, ◌++◌, map, inl, inr, refl, ap, sym, ◌∙◌, subst, arith, append_assoc, append-nil, reverse, suc, zero}
 use Rattle.std.specs.Prelude.{All, Contains}
 use Rattle.std.proofs.lemmas.List.{reverse-append, map-append}
-use Rattle.std.proofs.lemmas.List.Elements.{All-nil, All-cons, All-head, All-tail, All-append, All-push, All-weaker, All-map, All-contains, Contains-append_left, Contains-append_right, Contains-push, Contains-append_cases, Contains-push_cases}
+use Rattle.std.proofs.lemmas.List.Elements.{All-nil, All-cons, All-head, All-tail, All-append, All-push, All-weaker, All-map, All-contains, Contains-append_left, Contains-append_right, Contains-push, Contains-append_cases}
 use Rattle.std.proofs.lemmas.Bool.{eq-eqb, ne_eqb, cases_eq}
 use lib.Dec.{eqb}
-use mathlib.Core.List.{IsPrefix}
 use Rattle.kl_incr.specs.Kept.{TicketFields}
 use Rattle.kl_history.specs.declared.record.Record.{Record}
-use Rattle.kl_history.specs.Records.{History, Past, past_of, begins, closes, is_open, polls, Start, start_of}
+use Rattle.kl_history.specs.Records.{History, Past, past_of, begins, closes, is_open}
 use Rattle.kl_history.specs.Legal.{Legal}
+use Rattle.kl_core.specs.Books.{BookFields, past as past_at, with_more}
 use Rattle.kl_core.specs.Tickets.{IsGiven, IsOpenTicket}
 use Rattle.kl_core.proofs.Givens.{given_stands}
 use Rattle.kl_states.specs.declared.outcome.DropWhy.TheVariants.{End}
@@ -160,43 +160,49 @@ are_open past ts are =
     record { rising = are.rising; each = λ p. ((λ among. All-contains (λ q. is_open past q ≡ true) (poll_numbers ts) p opened among), are.all p) }
 
 -- Of the open polls the first ones were dropped, and these tickets are left.
-pub record Dropping (first now : History) (all left : List TicketFields) : Type 0 where
+pub record Dropping (first now : BookFields) (all left : List TicketFields) : Type 0 where
   pub done : List ℕ
-  pub history : now ≡ first ++ drops done
+  pub book : now ≡ with_more (drops done) first
   pub numbers : poll_numbers all ≡ done ++ poll_numbers left
-  pub tickets : AreTickets (past_of now) left
+  pub tickets : AreTickets (past_at now) left
 
-pub drop_none : (H : History) (ts : List TicketFields) → AreTickets (past_of H) ts → Dropping H H ts ts
-drop_none H ts are = record { done = []; history = sym (append-nil H); numbers = refl; tickets = are }
+pub with_none : (b : BookFields) → with_more [] b ≡ b
+with_none b = ap (λ (H : History). record { history = H; marks = b.marks }) (append-nil b.history)
+
+pub drop_none : (b : BookFields) (ts : List TicketFields) → AreTickets (past_at b) ts → Dropping b b ts ts
+drop_none b ts are = record { done = []; book = sym (with_none b); numbers = refl; tickets = are }
 
 -- one more is dropped
-pub drop_more : (first H : History) (all left : List TicketFields) (t : TicketFields) → Legal (H ++ Dropped t.poll End ∷ [])
-    → Dropping first H all (t ∷ left) → Dropping first (H ++ Dropped t.poll End ∷ []) all left
-drop_more first H all left t legal d =
+pub drop_more : (first b : BookFields) (all left : List TicketFields) (t : TicketFields) → Legal (b.history ++ Dropped t.poll End ∷ [])
+    → Dropping first b all (t ∷ left) → Dropping first (with_more (Dropped t.poll End ∷ []) b) all left
+drop_more first b all left t legal d =
     record {
       done = d.done ++ t.poll ∷ [];
-      history = rw (d.history, map-append (λ p. Dropped p End) d.done (t.poll ∷ [])) (append_assoc first (drops d.done) (Dropped t.poll End ∷ []));
+      book =
+          ap (with_more (Dropped t.poll End ∷ [])) d.book
+          ∙ ap (λ (H : History). record { history = H; marks = first.marks })
+          (append_assoc first.history (drops d.done) (Dropped t.poll End ∷ []) ∙ ap (λ rs. first.history ++ rs) (sym (map-append (λ p. Dropped p End) d.done (t.poll ∷ []))));
       numbers = d.numbers ∙ sym (append_assoc d.done (t.poll ∷ []) (poll_numbers left));
-      tickets = closed H (Dropped t.poll End) [] left t legal (λ p. refl) (λ p. refl) d.tickets;
+      tickets = closed b.history (Dropped t.poll End) [] left t legal (λ p. refl) (λ p. refl) d.tickets;
     }
 
 -- all are dropped
-pub dropped_all : (first H : History) (all : List TicketFields) → AreTickets (past_of first) all → Dropping first H all []
-    → (polls : List ℕ) × AreOpen (past_of first) polls × (H ≡ first ++ drops polls)
-dropped_all first H all are d =
+pub dropped_all : (first b : BookFields) (all : List TicketFields) → AreTickets (past_at first) all → Dropping first b all []
+    → (polls : List ℕ) × AreOpen (past_at first) polls × (b ≡ with_more (drops polls) first)
+dropped_all first b all are d =
     let numbers : poll_numbers all ≡ d.done = d.numbers ∙ append-nil d.done in
-    (poll_numbers all, are_open (past_of first) all are, d.history ∙ ap (λ ps. first ++ drops ps) (sym numbers))
+    (poll_numbers all, are_open (past_at first) all are, d.book ∙ ap (λ ps. with_more (drops ps) first) (sym numbers))
 
 -- the last of a list is the first of it turned round
 pub turned : (xs : List TicketFields) (x : TicketFields) → reverse (xs ++ x ∷ []) ≡ x ∷ reverse xs
 turned xs x = reverse-append xs (x ∷ [])
 
 -- the next ticket is the last of the row
-pub next_dropped : (first H : History) (all row front : List TicketFields) (t : TicketFields) → row ≡ front ++ t ∷ [] → Dropping first H all (reverse row) → Dropping first H all (t ∷ reverse front)
-next_dropped first H all row front t cut d = subst (Dropping first H all) (ap reverse cut ∙ turned front t) d
+pub next_dropped : (first b : BookFields) (all row front : List TicketFields) (t : TicketFields) → row ≡ front ++ t ∷ [] → Dropping first b all (reverse row) → Dropping first b all (t ∷ reverse front)
+next_dropped first b all row front t cut d = subst (Dropping first b all) (ap reverse cut ∙ turned front t) d
 
-pub head_opened : (first H : History) (all left : List TicketFields) (t : TicketFields) → Dropping first H all (t ∷ left) → IsOpenTicket (past_of H) t
-head_opened first H all left t d = All-head (IsOpenTicket (past_of H)) t left d.tickets.opened
+pub head_opened : (first b : BookFields) (all left : List TicketFields) (t : TicketFields) → Dropping first b all (t ∷ left) → IsOpenTicket (past_at b) t
+head_opened first b all left t d = All-head (IsOpenTicket (past_at b)) t left d.tickets.opened
 
 -- a poll that none of the tickets is of is not open
 pub none_of : (past : Past) (ts : List TicketFields) (p : ℕ) → AreTickets past ts → All (λ (t : TicketFields). t.poll ≡ p → ⊥) ts → is_open past p ≡ false

@@ -1,5 +1,6 @@
 -- What a reading leaves as it was.
-use Rattle.std.proofs.Common.{◌≡◌, ◌≢◌, ◌⊎◌, ℕ, ◌≤◌, List, Bool, true, Option, None, Some, IsSomeAnd, refl, ap, sym, ◌∙◌, inl, inr, arith}
+use Rattle.std.proofs.Common.{◌≡◌, ◌≢◌, ◌⊎◌, ℕ, ◌≤◌, List, true, Option, None, Some, IsSomeAnd, slice_get, Contains, refl, ap, ◌∙◌, inl, inr, arith}
+use Rattle.std.proofs.lemmas.Option.{get_or_from_slice_get, slice_get_within}
 use Rattle.kl_exclude.specs.Compiled.{Refuses as TooMuch}
 use Rattle.kl_exclude.specs.Told.{MakerTold}
 use Rattle.kl_exclude.specs.declared.fault.ExcludeFault.TheVariants.{Syntax, TooLarge, Memory as none_left}
@@ -11,6 +12,8 @@ use Rattle.kl_policy.specs.Making.{AsksFor, IsNoPolicy, IsJsonFault, is_settled}
 use Rattle.kl_policy.specs.PolicyFields.{PolicyFields}
 use Rattle.kl_policy.specs.declared.fault.PolicyFault.{PolicyFault}
 use Rattle.kl_policy.specs.declared.fault.PolicyFault.TheVariants.{Json, Line, BadDigest, Unsupported, Limit as Over, Exclude, Memory}
+use Rattle.kl_history.specs.declared.record.Record.{Record}
+use Rattle.kl_history.specs.Records.{History}
 use Rattle.kl_script.specs.declared.command.Add.{Add}
 use Rattle.kl_script.specs.declared.command.Replace.{Replace}
 use Rattle.kl_states.specs.declared.policy_kind.PolicyKind.{PolicyKind}
@@ -18,11 +21,11 @@ use Rattle.kl_states.specs.declared.policy_kind.PolicyKind.TheVariants as kind
 use Rattle.kl_session.specs.declared.naming.NoTerms.{NoTerms}
 use Rattle.kl_session.specs.declared.naming.NoTerms.TheVariants.{Policy, Mask, Static}
 use Rattle.kl_session.specs.Outside.{Outside, LeavesRest, outside}
-use Rattle.kl_session.specs.Stopped.{MadeSome}
+use Rattle.kl_session.specs.Stopped.{MadeSome, AsksSome}
 use Rattle.kl_session.specs.Terms.{Reads, Refuses, NamesNoTerms}
 use Rattle.kl_session.specs.Unique.{GoesOn}
 use Rattle.kl_session.specs.Inner.Naming.{Tells, IsPolicyFault, IsTermsFault}
-use Rattle.kl_session.specs.Calls.{SessionFields}
+use Rattle.kl_session.specs.Calls.{VerifierFields}
 use Rattle.kl_session.specs.Installs.{DoesAdd, DoesReplace}
 use Rattle.kl_session.specs.Texts.{refused_line, no_terms_text}
 use Rattle.kl_session.specs.declared.naming.NamingFault.{NamingFault}
@@ -92,55 +95,74 @@ rest_on o o' rest later = record {
   made = later;
 }
 
-reads_later : (o o' : Outside) (k : PolicyKind) (p : PolicyFields) → Reads o o' k p → o.maker.calls.faults ≤ o'.maker.calls.faults
-reads_later o o' k p r = elim r.asked [
+reads_later : (o o' : Outside) (H : History) (k : PolicyKind) (p : PolicyFields) → Reads o o' H k p → o.maker.calls.faults ≤ o'.maker.calls.faults
+reads_later o o' H k p r = elim r.asked [
   | inl asked ↦ asks_later k p.patterns o.maker o'.maker asked
-  | inr same ↦ omega (arith, ap (λ (m : MakerTold). m.calls.faults) same)
+  | inr same ↦ omega (arith, ap (λ (m : MakerTold). m.calls.faults) same.1)
 ]
 
-pub reads_on : (o o' : Outside) (k : PolicyKind) (p : PolicyFields) → Reads o o' k p → GoesOn o o'
-reads_on o o' k p r = rest_on o o' r.rest (reads_later o o' k p r)
+pub reads_on : (o o' : Outside) (H : History) (k : PolicyKind) (p : PolicyFields) → Reads o o' H k p → GoesOn o o'
+reads_on o o' H k p r = rest_on o o' r.rest (reads_later o o' H k p r)
 
 pub refuses_on : (o o' : Outside) (k : PolicyKind) (text : List ℕ) (why : PolicyFault) → Refuses o o' k text why → GoesOn o o'
 refuses_on o o' k text why r = rest_on o o' r.rest (no_policy_later k text o.maker o'.maker why r.because)
 
-pub no_terms_on : (o o' : Outside) (a : Add) (why : NoTerms) → NamesNoTerms o o' a why → GoesOn o o'
-no_terms_on o o' a (Policy why) h = refuses_on o o' a.kind a.policy why h
-no_terms_on o o' a Mask h = reads_on o o' a.kind h.0.0 h.0.2
-no_terms_on o o' a Static h = reads_on o o' a.kind h.0.0 h.0.2
+pub no_terms_on : (o o' : Outside) (H : History) (a : Add) (why : NoTerms) → NamesNoTerms o o' H a why → GoesOn o o'
+no_terms_on o o' H a (Policy why) h = refuses_on o o' a.kind a.policy why h
+no_terms_on o o' H a Mask h = reads_on o o' H a.kind h.0.0 h.0.2
+no_terms_on o o' H a Static h = reads_on o o' H a.kind h.0.0 h.0.2
 
 -- ---- where memory ran out behind a reading
 
-pub some_made : (o o' : Outside) (k : PolicyKind) (p : PolicyFields) → Reads o o' k p → MadeSome o o'
-some_made o o' kind.Flat p r = elim r.asked [
-  | inl same ↦ record { refused = record { faults = ap (λ (m : MakerTold). m.calls.faults) same; refused = ap (λ (m : MakerTold). m.refused) same }; rest = r.rest }
-  | inr same ↦ record { refused = record { faults = ap (λ (m : MakerTold). m.calls.faults) same; refused = ap (λ (m : MakerTold). m.refused) same }; rest = r.rest }
+-- nothing was asked
+none_asked : (k : PolicyKind) (a b : MakerTold) → b ≡ a → AsksSome k a b
+none_asked kind.Flat a b same = same
+none_asked kind.Json a b same = record { faults = ap (λ (m : MakerTold). m.calls.faults) same; refused = ap (λ (m : MakerTold). m.refused) same }
+
+all_asked : (k : PolicyKind) (patterns : List (List ℕ)) (a b : MakerTold) → AsksFor k patterns a b → AsksSome k a b
+all_asked kind.Flat patterns a b same = same
+all_asked kind.Json patterns a b made = made.refused
+
+pub some_made : (o o' : Outside) (H : History) (k : PolicyKind) (p : PolicyFields) → Reads o o' H k p → MadeSome o o' k
+some_made o o' H k p r = elim r.asked [
+  | inl made ↦ record { asked = all_asked k p.patterns o.maker o'.maker made; rest = r.rest }
+  | inr same ↦ record { asked = none_asked k o.maker o'.maker same.1; rest = r.rest }
 ]
-some_made o o' kind.Json p r = elim r.asked [
-  | inl made ↦ record { refused = made.refused; rest = r.rest }
-  | inr same ↦ record { refused = record { faults = ap (λ (m : MakerTold). m.calls.faults) same; refused = ap (λ (m : MakerTold). m.refused) same }; rest = r.rest }
-]
+
+-- memory ran out over the text
+pub read_in_part : (k : PolicyKind) (text : List ℕ) (a b : MakerTold) → IsNoPolicy k text a b Memory → AsksSome k a b
+read_in_part kind.Flat text a b h = h.1
+read_in_part kind.Json text a b h = h
+
+-- or over one owner more of a policy that was installed
+pub none_read : (o o' : Outside) (k : PolicyKind) → Tells o o' o.maker o.maker → MadeSome o o' k
+none_read o o' k tells = record { asked = none_asked k o.maker o'.maker tells.after_is; rest = tells.rest }
+
+-- ---- a policy that was installed before
+
+pub record_there : (H : History) (place : ℕ) (r : Record) → slice_get H place ≡ Some r → Contains H r
+record_there H place r at = (place, slice_get_within H place r at, get_or_from_slice_get H place r r at)
 
 -- ---- where a command names no terms, or memory runs out before
 
-pub policy_in_terms : (o o' : Outside) (a : Add) (f : NamingFault) → IsPolicyFault o o' a.kind a.policy f → IsTermsFault o o' a f
-policy_in_terms o o' a (fault.None (Policy why)) h = h
-policy_in_terms o o' a (fault.None Mask) h = absurd h
-policy_in_terms o o' a (fault.None Static) h = absurd h
-policy_in_terms o o' a fault.Memory h = h
+pub policy_in_terms : (o o' : Outside) (H : History) (a : Add) (f : NamingFault) → IsPolicyFault o o' a.kind a.policy f → IsTermsFault o o' H a f
+policy_in_terms o o' H a (fault.None (Policy why)) h = h
+policy_in_terms o o' H a (fault.None Mask) h = absurd h
+policy_in_terms o o' H a (fault.None Static) h = absurd h
+policy_in_terms o o' H a fault.Memory h = h
 
-pub add_unnamed : (o o' : Outside) (a : Add) (s : SessionFields) (f : NamingFault) → IsTermsFault o o' a f → ((line : List ℕ) × DoesAdd o o' a s s line) ⊎ ((s ≡ s) × MadeSome o o')
+pub add_unnamed : (o o' : Outside) (a : Add) (s : VerifierFields) (f : NamingFault) → IsTermsFault o o' s.history a f → ((line : List ℕ) × DoesAdd o o' a s s line) ⊎ ((s ≡ s) × MadeSome o o' a.kind)
 add_unnamed o o' a s (fault.None why) h = inl (refused_line (no_terms_text why), inr (why, h, (refl, refl)))
 add_unnamed o o' a s fault.Memory h = inr (refl, h)
 
-pub replace_unnamed : (o o' : Outside) (r : Replace) (s : SessionFields) (f : NamingFault) → IsPolicyFault o o' r.kind r.policy f
-    → ((line : List ℕ) × DoesReplace o o' r s s line) ⊎ ((s ≡ s) × MadeSome o o')
+pub replace_unnamed : (o o' : Outside) (r : Replace) (s : VerifierFields) (f : NamingFault) → IsPolicyFault o o' r.kind r.policy f
+    → ((line : List ℕ) × DoesReplace o o' r s s line) ⊎ ((s ≡ s) × MadeSome o o' r.kind)
 replace_unnamed o o' r s (fault.None (Policy why)) h = inl (refused_line (no_terms_text (Policy why)), inr (why, h, (refl, refl)))
 replace_unnamed o o' r s (fault.None Mask) h = absurd h
 replace_unnamed o o' r s (fault.None Static) h = absurd h
 replace_unnamed o o' r s fault.Memory h = inr (refl, h)
 
-pub replace_refused : (o o' : Outside) (r : Replace) (s : SessionFields) (why : NoTerms) (line : List ℕ) → IsPolicyFault o o' r.kind r.policy (fault.None why)
+pub replace_refused : (o o' : Outside) (r : Replace) (s : VerifierFields) (why : NoTerms) (line : List ℕ) → IsPolicyFault o o' r.kind r.policy (fault.None why)
     → line ≡ refused_line (no_terms_text why) → DoesReplace o o' r s s line
 replace_refused o o' r s (Policy why) line h said = inr (why, h, (refl, said))
 replace_refused o o' r s Mask line h said = absurd h

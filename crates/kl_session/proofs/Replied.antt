@@ -1,10 +1,11 @@
 -- How a reply closes its poll.
-use Rattle.std.proofs.Common.{◌≡◌, ◌≢◌, ◌⊎◌, All, eqb, ℕ, ◌+◌, ◌≤◌, Bool, true, false, List, [], ◌∷◌, ◌++◌, length, Some, None, inl, inr, refl, ap, sym, ◌∙◌, subst}
+use Rattle.std.proofs.Common.{◌≡◌, ◌≢◌, ◌⊎◌, All, eqb, ℕ, ◌+◌, ◌≤◌, Bool, false, List, [], ◌∷◌, ◌++◌, length, Some, inl, inr, refl, ap, sym, ◌∙◌, subst}
 use Rattle.std.proofs.lemmas.List.Elements.{All-head}
 use Rattle.kl_entry.specs.Lines.{lines_of}
 use Rattle.kl_quote.specs.declared.evidence.Evidence.{Evidence}
 use Rattle.kl_states.specs.declared.outcome.DropWhy.{DropWhy}
 use Rattle.kl_states.specs.declared.outcome.DropWhy.TheVariants.{Keys, Memory, End}
+use Rattle.kl_states.specs.declared.outcome.LostWhy.TheVariants.{Named}
 use Rattle.kl_appraise.specs.Asking.{Asked, AskedOnce}
 use Rattle.kl_appraise.specs.Evidence.{check_under}
 use Rattle.kl_appraise.specs.QuoteRules.{IsAnswered, IsUnasked}
@@ -16,29 +17,28 @@ use Rattle.kl_history.specs.declared.record.Record.TheVariants.{Dropped}
 use Rattle.kl_history.specs.Records.{History, Past, past_of}
 use Rattle.kl_history.specs.Legal.{IsLegalPast, Legal, Row}
 use Rattle.kl_core.specs.declared.closed.Closed.{Closed}
+use Rattle.kl_core.specs.Books.{BookFields, past as past_at, with_more as and_more}
 use Rattle.kl_core.specs.declared.closed.ClosedAs.TheVariants as closed
-use Rattle.kl_core.specs.Closes.{IsClosed, closed_by, record_by}
+use Rattle.kl_core.specs.Closes.{IsClosed, closed_by, record_by, lost_record}
 use Rattle.kl_core.proofs.OneMore.{past_of-snoc}
 use Rattle.kl_session.specs.Outside.{Outside}
 use Rattle.kl_core.specs.declared.refusal.Refusal.TheVariants.{NoPoll}
 use Rattle.kl_core.specs.Tickets.{IsOpenTicket}
 use Rattle.kl_script.specs.Commands.{ReplyFields}
-use Rattle.kl_history.specs.Records.{begins, closes, is_open}
-use Rattle.kl_session.specs.Calls.{SessionFields, past, with_more}
+use Rattle.kl_history.specs.Records.{begins, closes}
+use Rattle.kl_session.specs.Calls.{VerifierFields, past, with_more, verifier_of, book_of, FindsNoPoll}
+use Rattle.kl_session.specs.Losing.{DoesLose}
 use Rattle.kl_session.specs.Texts.{closed_line, says_refused}
-use Rattle.kl_session.specs.Replies.{Appraisal, Closes, ClosesPoll, DoesReply, Finds, Unanswered, Short, IsToAsk, closing_record, fields_of}
-use Rattle.kl_session.specs.Inner.Tickets.{AreTickets, Takes, poll_numbers}
+use Rattle.kl_session.specs.Replies.{Appraisal, DoesReply, Finds, Unanswered, Short, IsToAsk, closing_record, fields_of}
+use Rattle.kl_session.specs.Inner.Tickets.{AreTickets, Takes}
 use Rattle.kl_session.proofs.Opened.{all_right, closed as without_closed, none_of}
 use Rattle.kl_session.specs.Inner.Closed.{IsFound, ClosesBook}
 
 some_same : {A : Type 0} {x y : A} → Some x ≡ Some y → x ≡ y
 some_same same = cc
 
-abbrev pub session_of : History → ℕ → SessionFields
-session_of H moment = record { history = H; moment = moment }
-
-same_session : (s t : SessionFields) → s.history ≡ t.history → s.moment ≡ t.moment → s ≡ t
-same_session s t history moment = ap (λ H. session_of H s.moment) history ∙ ap (session_of t.history) moment
+same_verifier : (s t : VerifierFields) → book_of s ≡ book_of t → s.moment ≡ t.moment → s ≡ t
+same_verifier s t book moment = ap (λ b. verifier_of b s.moment) book ∙ ap (verifier_of (book_of t)) moment
 
 found_by_row : (past : Past) (p : ℕ) (e : Evidence) (s : Bool) (f : Finding) (c : Bool) → Row past (record_by p e s f c) → IsFound past p e s f
 found_by_row past p e s (finding.Verdict v) c row = row.1
@@ -49,15 +49,15 @@ pub found_in : (H : History) (p : ℕ) (e : Evidence) (s : Bool) (f : Finding) (
 found_in H p e s f c legal = found_by_row (past_of H) p e s f c (subst IsLegalPast (past_of-snoc H (record_by p e s f c)) legal).1
 
 -- by what was found of the reply
-pub found_closes : (o o' : Outside) (H H' : History) (t : TicketFields) (e : Evidence) (a : AppraisedFields) (c : Closed) → a.ticket ≡ t → a.evidence ≡ e
-    → IsFound (past_of H) a.ticket.poll a.evidence a.signed a.finding
+pub found_closes : (o o' : Outside) (b b' : BookFields) (t : TicketFields) (e : Evidence) (a : AppraisedFields) (c : Closed) → a.ticket ≡ t → a.evidence ≡ e
+    → IsFound (past_at b) a.ticket.poll a.evidence a.signed a.finding
     → IsAnswered o.keys.relations t.terms.ak (check_under t.terms t.nonce e a.signed)
     → (IsUnasked (check_under t.terms t.nonce e false) ⊎ Asked o.keys o'.keys t.terms.ak e.quote (Some a.signed))
     → ((o'.keys ≡ o.keys) ⊎ IsToAsk t e) → o'.words ≡ o.words → o'.maker ≡ o.maker → o'.steps ≤ o.steps + length (lines_of e.list)
-    → IsClosed (past_of H) (record_by a.ticket.poll a.evidence a.signed a.finding c.current) a.ticket (closed_by a.finding) c
-    → H' ≡ H ++ record_by a.ticket.poll a.evidence a.signed a.finding c.current ∷ []
-    → ClosesBook o o' H t e c H'
-found_closes o o' H H' t e a c same_t same_e found answered question unasked undrawn unmade cost is_closed grown = (
+    → IsClosed (past_at b) (record_by a.ticket.poll a.evidence a.signed a.finding c.current) a.ticket (closed_by a.finding) c
+    → b' ≡ and_more (record_by a.ticket.poll a.evidence a.signed a.finding c.current ∷ []) b
+    → ClosesBook o o' b t e c b'
+found_closes o o' b b' t e a c same_t same_e found answered question unasked undrawn unmade cost is_closed grown = (
   record_by a.ticket.poll a.evidence a.signed a.finding c.current,
   grown,
   record {
@@ -79,11 +79,11 @@ found_closes o o' H H' t e a c same_t same_e found answered question unasked und
 )
 
 -- without a finding
-pub dropped_closes : (o o' : Outside) (H H' : History) (t u : TicketFields) (e : Evidence) (why : DropWhy) (c : Closed) → u ≡ t
+pub dropped_closes : (o o' : Outside) (b b' : BookFields) (t u : TicketFields) (e : Evidence) (why : DropWhy) (c : Closed) → u ≡ t
     → IsBlamed why o.keys o'.keys t e → ((o'.keys ≡ o.keys) ⊎ IsToAsk t e) → ((o'.keys ≡ o.keys) ⊎ AskedOnce o.keys o'.keys t.terms.ak e.quote)
     → o'.words ≡ o.words → o'.maker ≡ o.maker → IsIdle why t o.steps o'.steps → o'.steps ≤ o.steps + length (lines_of e.list)
-    → IsClosed (past_of H) (Dropped u.poll why) u (closed.Dropped why) c → H' ≡ H ++ Dropped u.poll why ∷ [] → ClosesBook o o' H t e c H'
-dropped_closes o o' H H' t u e Keys c same blamed unasked once undrawn unmade idle cost is_closed grown = (
+    → IsClosed (past_at b) (Dropped u.poll why) u (closed.Dropped why) c → b' ≡ and_more (Dropped u.poll why ∷ []) b → ClosesBook o o' b t e c b'
+dropped_closes o o' b b' t u e Keys c same blamed unasked once undrawn unmade idle cost is_closed grown = (
   Dropped u.poll Keys,
   grown,
   record {
@@ -95,7 +95,7 @@ dropped_closes o o' H H' t u e Keys c same blamed unasked once undrawn unmade id
     told = rw (← same) is_closed;
   },
 )
-dropped_closes o o' H H' t u e Memory c same blamed unasked once undrawn unmade idle cost is_closed grown = (
+dropped_closes o o' b b' t u e Memory c same blamed unasked once undrawn unmade idle cost is_closed grown = (
   Dropped u.poll Memory,
   grown,
   record {
@@ -115,7 +115,7 @@ dropped_closes o o' H H' t u e Memory c same blamed unasked once undrawn unmade 
     told = rw (← same) is_closed;
   },
 )
-dropped_closes o o' H H' t u e End c same blamed unasked once undrawn unmade idle cost is_closed grown = absurd blamed
+dropped_closes o o' b b' t u e End c same blamed unasked once undrawn unmade idle cost is_closed grown = absurd blamed
 
 -- ---- the record that closes a poll
 
@@ -136,18 +136,19 @@ closing_begins p e Short c q = refl
 pub taken_opened : (P : TicketFields → Type 0) (ts others : List TicketFields) (t : TicketFields) → Takes ts t others → All P ts → P t
 taken_opened P ts others t taken all = All-head P t taken.1 (all_right P taken.0 (t ∷ taken.1) (subst (All P) taken.2 all))
 
-pub closed_tickets : (o o' : Outside) (H H' : History) (ts others : List TicketFields) (t : TicketFields) (e : Evidence) (c : Closed)
-    → Takes ts t others → ClosesBook o o' H t e c H' → Legal H' → AreTickets (past_of H) ts → AreTickets (past_of H') others
-closed_tickets o o' H H' ts others t e c taken b legal are =
-    let closing : (q : ℕ) → closes q b.0 ≡ eqb q t.poll = λ q. ap (closes q) b.2.by_record ∙ closing_closes t.poll e b.2.appraisal c.current q in
-    let beginning : (q : ℕ) → begins q b.0 ≡ false = λ q. ap (begins q) b.2.by_record ∙ closing_begins t.poll e b.2.appraisal c.current q in
-    rw (b.1, taken.3)
-    (without_closed H b.0 taken.0 taken.1 t (subst Legal b.1 legal) beginning closing (subst (AreTickets (past_of H)) taken.2 are))
+pub closed_tickets : (o o' : Outside) (b b' : BookFields) (ts others : List TicketFields) (t : TicketFields) (e : Evidence) (c : Closed)
+    → Takes ts t others → ClosesBook o o' b t e c b' → Legal b'.history → AreTickets (past_at b) ts → AreTickets (past_at b') others
+closed_tickets o o' b b' ts others t e c taken by legal are =
+    let closing : (q : ℕ) → closes q by.0 ≡ eqb q t.poll = λ q. ap (closes q) by.2.by_record ∙ closing_closes t.poll e by.2.appraisal c.current q in
+    let beginning : (q : ℕ) → begins q by.0 ≡ false = λ q. ap (begins q) by.2.by_record ∙ closing_begins t.poll e by.2.appraisal c.current q in
+    rw (by.1, taken.3)
+    (without_closed b.history by.0 taken.0 taken.1 t (subst (λ (x : BookFields). Legal x.history) by.1 legal) beginning closing
+    (subst (AreTickets (past_at b)) taken.2 are))
 
 -- ---- the session
 
-pub closes_session : (o o' : Outside) (r : ReplyFields) (s s' : SessionFields) (t : TicketFields) (e : Evidence) (c : Closed) (line : List ℕ)
-    → IsOpenTicket (past s) t → fields_of t.poll e ≡ r → ClosesBook o o' s.history t e c s'.history → s'.moment ≡ s.moment → line ≡ closed_line c
+pub closes_session : (o o' : Outside) (r : ReplyFields) (s s' : VerifierFields) (t : TicketFields) (e : Evidence) (c : Closed) (line : List ℕ)
+    → IsOpenTicket (past s) t → fields_of t.poll e ≡ r → ClosesBook o o' (book_of s) t e c (book_of s') → s'.moment ≡ s.moment → line ≡ closed_line c
     → DoesReply o o' r s s' line
 closes_session o o' r s s' t e c line opened carries b same said = inl (record {
   ticket = t;
@@ -157,10 +158,33 @@ closes_session o o' r s s' t e c line opened carries b same said = inl (record {
   made = b.0;
   closed = c;
   closes = b.2;
-  after = same_session s' (with_more (b.0 ∷ []) s) b.1 same;
+  after = same_verifier s' (with_more (b.0 ∷ []) s) b.1 same;
   said = said;
 })
 
-pub finds_no_poll : (o : Outside) (r : ReplyFields) (s : SessionFields) (ts : List TicketFields) (line : List ℕ) → AreTickets (past s) ts → All (λ t. t.poll ≢ r.poll) ts
-    → says_refused (NoPoll r.poll) ≡ Some line → DoesReply o o r s s line
-finds_no_poll o r s ts line are none said = inr (none_of (past s) ts r.poll are none, refl, refl, sym (some_same said))
+pub finds_no_poll : (p : ℕ) (s : VerifierFields) (ts : List TicketFields) (line : List ℕ) → AreTickets (past s) ts → All (λ t. t.poll ≢ p) ts
+    → says_refused (NoPoll p) ≡ Some line → FindsNoPoll p s s line
+finds_no_poll p s ts line are none said = (none_of (past s) ts p are none, refl, sym (some_same said))
+
+-- ---- a poll is given up as lost
+
+pub lost_tickets : (b b' : BookFields) (ts others : List TicketFields) (t : TicketFields) (now : Bool) → Takes ts t others
+    → b' ≡ and_more (lost_record t.poll Named now ∷ []) b → Legal b'.history → AreTickets (past_at b) ts → AreTickets (past_at b') others
+lost_tickets b b' ts others t now taken grown legal are =
+    rw (grown, taken.3)
+    (without_closed b.history (lost_record t.poll Named now) taken.0 taken.1 t (subst (λ (x : BookFields). Legal x.history) grown legal) (λ q. refl) (λ q. refl)
+    (subst (AreTickets (past_at b)) taken.2 are))
+
+pub loses_poll : (s s' : VerifierFields) (t : TicketFields) (p : ℕ) (c : Closed) (line : List ℕ) → IsOpenTicket (past s) t → t.poll ≡ p
+    → IsClosed (past s) (lost_record t.poll Named c.current) t (closed.Lost Named) c
+    → book_of s' ≡ and_more (lost_record t.poll Named c.current ∷ []) (book_of s) → s'.moment ≡ s.moment → line ≡ closed_line c
+    → DoesLose p s s' line
+loses_poll s s' t p c line opened poll told grown same said = inl (record {
+  ticket = t;
+  opened = opened;
+  poll = poll;
+  closed = c;
+  told = told;
+  after = same_verifier s' (with_more (lost_record t.poll Named c.current ∷ []) s) grown same;
+  said = said;
+})

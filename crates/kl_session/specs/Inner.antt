@@ -3,3 +3,4 @@ pub mod Naming
 pub mod Tickets
 pub mod Stopping
 pub mod Closed
+pub mod Registrars

@@ -2,11 +2,16 @@ pub mod Outside
 pub mod Texts
 pub mod Terms
 pub mod Calls
+pub mod Drawing
 pub mod Installs
 pub mod Endings
 pub mod Polls
 pub mod Replies
+pub mod Losing
+pub mod Noticing
 pub mod States
+pub mod Verifying
+pub mod Registering
 pub mod Session
 pub mod Closing
 pub mod Stopped

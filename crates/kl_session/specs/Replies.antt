@@ -1,7 +1,6 @@
 -- What a reply does.
-use Rattle.std.specs.Prelude.{◌≡◌, ◌⊎◌, ℕ, ◌+◌, ◌≤◌, Bool, true, false, List, [], ◌∷◌, length, Some, None}
+use Rattle.std.specs.Prelude.{◌≡◌, ◌⊎◌, ℕ, ◌+◌, ◌≤◌, Bool, false, List, [], ◌∷◌, length, Some, None}
 use Rattle.kl_entry.specs.Lines.{lines_of}
-use Rattle.kl_keys.specs.Told.{KeysTold}
 use Rattle.kl_quote.specs.declared.evidence.Evidence.{Evidence}
 use Rattle.kl_states.specs.declared.outcome.DropWhy.TheVariants as dropped
 use Rattle.kl_appraise.specs.Asking.{Asked, AskedOnce}
@@ -14,18 +13,16 @@ use Rattle.kl_incr.specs.Kept.{TicketFields}
 use Rattle.kl_script.specs.Commands.{ReplyFields}
 use Rattle.kl_history.specs.declared.record.Record.{Record}
 use Rattle.kl_history.specs.declared.record.Record.TheVariants as record_of
-use Rattle.kl_history.specs.Records.{Past, is_open}
+use Rattle.kl_history.specs.Records.{Past}
 use Rattle.kl_history.specs.Legal.{IsCaseOf}
 use Rattle.kl_core.specs.declared.closed.Closed.{Closed}
 use Rattle.kl_core.specs.declared.closed.ClosedAs.{ClosedAs}
 use Rattle.kl_core.specs.declared.closed.ClosedAs.TheVariants.{Dropped}
-use Rattle.kl_core.specs.declared.refusal.Refusal.TheVariants.{NoPoll}
 use Rattle.kl_core.specs.Closes.{IsClosed, closed_by, record_by}
-use Rattle.kl_core.specs.Texts.{refusal_text}
 use Rattle.kl_core.specs.Tickets.{IsOpenTicket}
 use Rattle.kl_session.specs.Outside.{Outside}
-use Rattle.kl_session.specs.Calls.{SessionFields, past, with_more}
-use Rattle.kl_session.specs.Texts.{closed_line, refused_line}
+use Rattle.kl_session.specs.Calls.{VerifierFields, past, with_more, FindsNoPoll}
+use Rattle.kl_session.specs.Texts.{closed_line}
 
 -- the parts of a reply to a poll that carries the evidence
 abbrev pub fields_of : ℕ → Evidence → ReplyFields
@@ -86,7 +83,7 @@ pub record Closes (o o' : Outside) (past : Past) (t : TicketFields) (e : Evidenc
   pub told : IsClosed past made t (closed_as appraisal) c
 
 -- a reply closes its open poll
-pub record ClosesPoll (o o' : Outside) (r : ReplyFields) (s s' : SessionFields) (line : List ℕ) : Type 0 where
+pub record ClosesPoll (o o' : Outside) (r : ReplyFields) (s s' : VerifierFields) (line : List ℕ) : Type 0 where
   pub ticket : TicketFields
   pub opened : IsOpenTicket (past s) ticket
   pub evidence : Evidence
@@ -97,10 +94,5 @@ pub record ClosesPoll (o o' : Outside) (r : ReplyFields) (s s' : SessionFields) 
   pub after : s' ≡ with_more (made ∷ []) s
   pub said : line ≡ closed_line closed
 
--- a reply to no open poll is refused
-abbrev pub FindsNoPoll : Outside → Outside → ReplyFields → SessionFields → SessionFields → List ℕ → Type 0
-FindsNoPoll o o' r s s' line =
-    (is_open (past s) r.poll ≡ false) × (o' ≡ o) × (s' ≡ s) × (line ≡ refused_line (refusal_text (NoPoll r.poll)))
-
-abbrev pub DoesReply : Outside → Outside → ReplyFields → SessionFields → SessionFields → List ℕ → Type 0
-DoesReply o o' r s s' line = ClosesPoll o o' r s s' line ⊎ FindsNoPoll o o' r s s' line
+abbrev pub DoesReply : Outside → Outside → ReplyFields → VerifierFields → VerifierFields → List ℕ → Type 0
+DoesReply o o' r s s' line = ClosesPoll o o' r s s' line ⊎ ((o' ≡ o) × FindsNoPoll r.poll s s' line)

@@ -1,47 +1,79 @@
 -- Why a command was not answered.
-use Rattle.std.specs.Prelude.{◌≡◌, ◌⊎◌, ℕ, ◌<◌, List, length, Option, Some, None, ⊤}
-use Rattle.kl_exclude.specs.Told.{RefusesNone}
-use Rattle.kl_io.specs.Calls.{Counts}
-use Rattle.kl_script.specs.Commands.{CommandFields, add, replace, begin}
+use Rattle.std.specs.Prelude.{◌≡◌, ◌⊎◌, ℕ, List, Option, None}
+use Rattle.kl_exclude.specs.Told.{MakerTold, RefusesNone}
+use Rattle.kl_registrar.specs.Asking.{Asked}
+use Rattle.kl_registrar.specs.Calls.{Log}
+use Rattle.kl_script.specs.declared.command.Register.{Register}
+use Rattle.kl_script.specs.declared.command.RegistrarCommand.{RegistrarCommand}
+use Rattle.kl_script.specs.declared.command.RegistrarCommand.TheVariants as registrar
+use Rattle.kl_script.specs.Commands.{VerifierCommandFields, CommandFields, add, replace, begin, nothing, to_verifier, to_registrar}
+use Rattle.kl_states.specs.declared.policy_kind.PolicyKind.{PolicyKind}
+use Rattle.kl_states.specs.declared.policy_kind.PolicyKind.TheVariants.{Flat, Json}
 use Rattle.kl_session.specs.declared.stop.Stop.{Stop}
 use Rattle.kl_session.specs.declared.stop.Stop.TheVariants.{NoNonce, Memory}
 use Rattle.kl_session.specs.Outside.{Outside, LeavesRest}
-use Rattle.kl_session.specs.Calls.{SessionFields}
-use Rattle.kl_session.specs.Polls.{Draws}
-use Rattle.kl_session.specs.Session.{Does}
+use Rattle.kl_session.specs.Calls.{VerifierFields, SessionFields}
+use Rattle.kl_session.specs.Drawing.{Draws, DrawsNone}
+use Rattle.kl_session.specs.Verifying.{VerifierDoes}
+use Rattle.kl_session.specs.Registering.{AsksKeys, RegistrarDoes}
 
--- fewer bytes are left than so many, where it is known how many are
-abbrev pub HasFewer : Option (List ℕ) → ℕ → Type 0
-HasFewer None n = ⊤
-HasFewer (Some left) n = length left < n
+-- ---- the verifier
 
--- one draw of 16 bytes took nothing: it met a fault, or fewer are left
-pub record DrawsNone (o o' : Outside) : Type 0 where
-  pub left : o'.words.left ≡ o.words.left
-  pub cause : Counts o.words.calls o'.words.calls ⊤ ⊎ (HasFewer o.words.left 16 × Counts o.words.calls o'.words.calls ⊥)
-  pub keys : o'.keys ≡ o.keys
-  pub maker : o'.maker ≡ o.maker
-  pub steps : o'.steps ≡ o.steps
+-- what was asked of patterns where memory ran out: some of a JSON policy, none of which was refused as too large, and none of a flat one
+abbrev pub AsksSome : PolicyKind → MakerTold → MakerTold → Type 0
+AsksSome Flat old new = new ≡ old
+AsksSome Json old new = RefusesNone old new
 
--- patterns were made, none of which was refused as too large
-pub record MadeSome (o o' : Outside) : Type 0 where
-  pub refused : RefusesNone o.maker o'.maker
+-- patterns of a policy of this form were made, and nothing else was done
+pub record MadeSome (o o' : Outside) (kind : PolicyKind) : Type 0 where
+  pub asked : AsksSome kind o.maker o'.maker
   pub rest : LeavesRest o o'
 
 -- the command begins a poll whose nonce is to be drawn, and this is so
-abbrev pub IsToDraw : CommandFields → Type 0 → Type 0
+abbrev pub IsToDraw : VerifierCommandFields → Type 0 → Type 0
 IsToDraw (begin b) Drawn = (b.nonce ≡ None) × Drawn
 IsToDraw _ Drawn = ⊥
 
--- the command has a JSON policy, and for that patterns may have been made, none of which was refused as too large
-abbrev pub IsToRead : CommandFields → Outside → Outside → Type 0
-IsToRead (add a) o o' = MadeSome o o'
-IsToRead (replace r) o o' = MadeSome o o'
+-- the command has a policy, of which patterns may have been made
+abbrev pub IsToRead : VerifierCommandFields → Outside → Outside → Type 0
+IsToRead (add a) o o' = MadeSome o o' a.kind
+IsToRead (replace r) o o' = MadeSome o o' r.kind
 IsToRead _ o o' = ⊥
 
--- A command was not answered: no nonce could be drawn for it, which changes nothing; or memory ran out, before anything was done
--- (but that a nonce may have been drawn, or patterns made) or after all was done, so that its line alone is missing.
+-- A command to the verifier was not answered: no nonce could be drawn for it, which changes nothing; or memory ran out, before
+-- anything was done (but that a nonce may have been drawn, or patterns made) or after all was done, so that its line alone is missing.
+abbrev pub VerifierStopped : Stop → Outside → Outside → VerifierFields → VerifierCommandFields → VerifierFields → Type 0
+VerifierStopped NoNonce o o' s c s' = (s' ≡ s) × IsToDraw c (DrawsNone 16 o o')
+VerifierStopped Memory o o' s c s' =
+    ((line : List ℕ) × VerifierDoes o o' s c s' line)
+    ⊎ ((s' ≡ s) × ((o' ≡ o) ⊎ IsToDraw c ((drawn : List ℕ) × Draws 16 o o' drawn) ⊎ IsToRead c o o'))
+
+-- ---- the registrar
+
+-- the command registers an agent, whose secret is to be drawn, and this is so
+abbrev pub IsToRegister : RegistrarCommand → (Register → Type 0) → Type 0
+IsToRegister (registrar.Register r) So = So r
+IsToRegister _ So = ⊥
+
+-- a secret was drawn, and then the keys were asked for the blob without a fault
+pub record AskedInVain (o o' : Outside) (r : Register) : Type 0 where
+  pub secret : List ℕ
+  pub then : Outside
+  pub draws : Draws 32 o then secret
+  pub asks : AsksKeys then o'
+  pub answer : Option (List ℕ)
+  pub asked : Asked then.keys o'.keys r.ek r.ak secret answer ⊥
+
+-- A command to the registrar was not answered: no secret could be drawn for it, which changes nothing; or memory ran out, before
+-- anything was done (but that a secret may have been drawn and the keys asked) or after all was done, so that its line alone is missing.
+abbrev pub RegistrarStopped : Stop → Outside → Outside → Log → RegistrarCommand → Log → Type 0
+RegistrarStopped NoNonce o o' calls c calls' = (calls' ≡ calls) × IsToRegister c (λ r. DrawsNone 32 o o')
+RegistrarStopped Memory o o' calls c calls' =
+    ((line : List ℕ) × RegistrarDoes o o' calls c calls' line) ⊎ ((calls' ≡ calls) × ((o' ≡ o) ⊎ IsToRegister c (AskedInVain o o')))
+
+-- ---- a session
+
 abbrev pub IsStopped : Stop → Outside → Outside → SessionFields → CommandFields → SessionFields → Type 0
-IsStopped NoNonce o o' s c s' = (s' ≡ s) × IsToDraw c (DrawsNone o o')
-IsStopped Memory o o' s c s' =
-    ((line : List ℕ) × Does o o' s c s' line) ⊎ ((s' ≡ s) × ((o' ≡ o) ⊎ IsToDraw c ((nonce : List ℕ) × Draws o o' nonce) ⊎ IsToRead c o o'))
+IsStopped why o o' s nothing s' = ⊥
+IsStopped why o o' s (to_verifier c) s' = VerifierStopped why o o' s.verifier c s'.verifier × (s'.calls ≡ s.calls)
+IsStopped why o o' s (to_registrar c) s' = RegistrarStopped why o o' s.calls c s'.calls × (s'.verifier ≡ s.verifier)

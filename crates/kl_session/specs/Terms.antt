@@ -1,5 +1,5 @@
 -- The terms that a command names, and why it names none.
-use Rattle.std.specs.Prelude.{◌≡◌, ◌≢◌, ◌⊎◌, ℕ, List}
+use Rattle.std.specs.Prelude.{◌≡◌, ◌≢◌, ◌⊎◌, ℕ, List, Contains}
 use Rattle.kl_policy.specs.Making.{AsksFor, IsNoPolicy}
 use Rattle.kl_policy.specs.PolicyFields.{PolicyFields}
 use Rattle.kl_policy.specs.Reading.{IsPolicy}
@@ -7,15 +7,27 @@ use Rattle.kl_policy.specs.declared.fault.PolicyFault.{PolicyFault}
 use Rattle.kl_policy.specs.declared.fault.PolicyFault.TheVariants as policy_fault
 use Rattle.kl_pcr.specs.Statics.{AreStatics}
 use Rattle.kl_appraise.specs.Terms.{IsMask, TermsFields}
+use Rattle.kl_history.specs.declared.record.InstallWhy.{InstallWhy}
+use Rattle.kl_history.specs.declared.record.Record.TheVariants.{Install}
+use Rattle.kl_history.specs.Records.{History}
 use Rattle.kl_script.specs.declared.command.Add.{Add}
 use Rattle.kl_states.specs.declared.policy_kind.PolicyKind.{PolicyKind}
 use Rattle.kl_session.specs.Outside.{Outside, LeavesRest}
 use Rattle.kl_session.specs.declared.naming.NoTerms.{NoTerms}
 use Rattle.kl_session.specs.declared.naming.NoTerms.TheVariants.{Policy, Mask, Static}
 
--- What reading a policy asks: each of its patterns once, in order; or nothing, where it was read before.
-pub record Reads (o o' : Outside) (kind : PolicyKind) (p : PolicyFields) : Type 0 where
-  pub asked : AsksFor kind p.patterns o.maker o'.maker ⊎ (o'.maker ≡ o.maker)
+-- the policy was installed before
+pub record WasInstalled (H : History) (p : PolicyFields) : Type 0 where
+  pub agent : List ℕ
+  pub generation : ℕ
+  pub terms : TermsFields
+  pub why : InstallWhy
+  pub there : Contains H (Install agent generation terms why)
+  pub policy : terms.policy ≡ p
+
+-- What reading a policy asks: each of its patterns once, in order; or nothing, where it was installed before.
+pub record Reads (o o' : Outside) (H : History) (kind : PolicyKind) (p : PolicyFields) : Type 0 where
+  pub asked : AsksFor kind p.patterns o.maker o'.maker ⊎ (WasInstalled H p × (o'.maker ≡ o.maker))
   pub rest : LeavesRest o o'
 
 -- the text of this form is no policy, for this reason, which is not want of memory
@@ -35,11 +47,11 @@ pub record NamesTerms (a : Add) (t : TermsFields) : Type 0 where
   pub policy : IsPolicy a.kind a.policy t.policy
 
 -- its policy is one
-abbrev pub NamesPolicy : Outside → Outside → Add → Type 0
-NamesPolicy o o' a = (p : PolicyFields) × IsPolicy a.kind a.policy p × Reads o o' a.kind p
+abbrev pub NamesPolicy : Outside → Outside → History → Add → Type 0
+NamesPolicy o o' H a = (p : PolicyFields) × IsPolicy a.kind a.policy p × Reads o o' H a.kind p
 
 -- why the add names no terms, the first cause: its policy is none, then its mask, then its static PCRs
-abbrev pub NamesNoTerms : Outside → Outside → Add → NoTerms → Type 0
-NamesNoTerms o o' a (Policy why) = Refuses o o' a.kind a.policy why
-NamesNoTerms o o' a Mask = NamesPolicy o o' a × (¬ IsMask a.mask)
-NamesNoTerms o o' a Static = NamesPolicy o o' a × IsMask a.mask × (¬ AreStatics a.bank a.mask a.statics)
+abbrev pub NamesNoTerms : Outside → Outside → History → Add → NoTerms → Type 0
+NamesNoTerms o o' H a (Policy why) = Refuses o o' a.kind a.policy why
+NamesNoTerms o o' H a Mask = NamesPolicy o o' H a × (¬ IsMask a.mask)
+NamesNoTerms o o' H a Static = NamesPolicy o o' H a × IsMask a.mask × (¬ AreStatics a.bank a.mask a.statics)

@@ -1,5 +1,8 @@
 -- The lines that a session prints: words with one space between two, numbers in decimal, and a newline at the end.
-use Rattle.std.specs.Prelude.{ℕ, Bool, true, false, List, [], ◌∷◌, ◌++◌, codes, decimal, Option, Some, None}
+use Rattle.std.specs.Prelude.{ℕ, Bool, true, false, List, [], ◌∷◌, ◌++◌, length, flat_map, codes, decimal, Option, Some, None}
+use Rattle.base64.specs.Engines.{standard}
+use Rattle.base64.specs.GeneralPurpose.{encode_of}
+use Rattle.hex.specs.Hex.{encode_lower}
 use Rattle.kl_states.specs.declared.op.Op.{Op}
 use Rattle.kl_states.specs.declared.op.State.{State}
 use Rattle.kl_states.specs.Ops.{number_of, name_of}
@@ -13,7 +16,13 @@ use Rattle.kl_core.specs.declared.closed.ClosedAs.TheVariants.{Verdict, Restart,
 use Rattle.kl_core.specs.declared.refusal.Refusal.{Refusal}
 use Rattle.kl_core.specs.declared.refusal.Refusal.TheVariants.{Memory}
 use Rattle.kl_core.specs.Texts.{refusal_text}
+use Rattle.kl_notice.specs.declared.notice.Notice.{Notice}
+use Rattle.kl_notice.specs.Texts.{notice_text}
 use Rattle.kl_policy.specs.Texts.{named_text}
+use Rattle.kl_registrar.specs.Calls.{Registration}
+use Rattle.kl_registrar.specs.declared.fault.RegFault.{RegFault}
+use Rattle.kl_registrar.specs.Texts.{fault_text}
+use Rattle.kl_script.specs.Words.{field_of}
 use Rattle.kl_session.specs.declared.naming.NoTerms.{NoTerms}
 use Rattle.kl_session.specs.declared.naming.NoTerms.TheVariants.{Policy, Mask, Static}
 
@@ -36,6 +45,10 @@ refused_line why = codes "refused " ++ why ++ newline
 abbrev pub says_refused : Refusal → Option (List ℕ)
 says_refused Memory = None
 says_refused why = Some (refused_line (refusal_text why))
+
+-- what is said of a refusal of the registrar
+abbrev pub reg_refused_line : RegFault → List ℕ
+reg_refused_line why = refused_line (fault_text why)
 
 -- ---- what was done
 
@@ -86,3 +99,44 @@ closed_text p (Dropped why) now = codes "dropped " ++ decimal p ++ codes " " ++ 
 -- a poll was closed, after which its agent is in this state
 abbrev pub closed_line : Closed → List ℕ
 closed_line c = closed_text c.poll c.as_what c.current ++ codes " state " ++ op_text c.op ++ newline
+
+-- ---- what is next
+
+-- the agent that is polled next
+abbrev pub picked_line : Option (List ℕ) → List ℕ
+picked_line (Some agent) = codes "due " ++ agent ++ newline
+picked_line None = codes "due none" ++ newline
+
+-- the first notice that is not delivered
+abbrev pub notice_line : Option Notice → List ℕ
+notice_line (Some n) = notice_text n ++ newline
+notice_line None = codes "notice none" ++ newline
+
+-- the notice of this number is delivered
+abbrev pub noticed_line : ℕ → List ℕ
+noticed_line number = codes "noticed " ++ decimal number ++ newline
+
+-- this is not the number of the first notice that is not delivered
+abbrev pub no_notice_line : ℕ → List ℕ
+no_notice_line number = refused_line (codes "nonotice " ++ decimal number)
+
+-- ---- the registrar
+
+-- an agent is registered: its blob, in base64
+abbrev pub blob_line : List ℕ → List ℕ → List ℕ
+blob_line agent blob = codes "blob " ++ agent ++ codes " " ++ encode_of standard blob ++ newline
+
+abbrev pub active_line : List ℕ → List ℕ
+active_line agent = codes "active " ++ agent ++ newline
+
+-- what an agent registered: its two keys in hexadecimal, and its contact as a field
+abbrev pub record_line : List ℕ → Registration → List ℕ
+record_line agent r =
+    codes "record " ++ agent ++ codes " " ++ encode_lower r.ek ++ codes " " ++ encode_lower r.ak ++ codes " " ++ field_of r.contact ++ newline
+
+-- how many agents there are, and their names
+abbrev pub records_line : List (List ℕ) → List ℕ
+records_line ids = codes "records " ++ decimal (length ids) ++ flat_map (λ id. codes " " ++ id) ids ++ newline
+
+abbrev pub forgotten_line : List ℕ → List ℕ
+forgotten_line agent = codes "forgotten " ++ agent ++ newline

@@ -42,9 +42,9 @@ pub record GoesOn (o o' : Outside) : Type 0 where
   pub made : o.maker.calls.faults ≤ o'.maker.calls.faults
   pub left : (words : List ℕ) → o.words.left ≡ Some words → (rest : List ℕ) × (o'.words.left ≡ Some rest)
 
--- the history of the session has more records, behind those that it had
+-- the history of the session's verifier has more records, behind those that it had
 abbrev pub Grows : SessionFields → SessionFields → Type 0
-Grows s s' = (made : List Record) × (s'.history ≡ s.history ++ made)
+Grows s s' = (made : List Record) × (s'.verifier.history ≡ s.verifier.history ++ made)
 
 -- Where the key object answers by these relations, and these words are left: without a fault and for want of nothing the command
 -- leads from the one session to the other, prints this line and leaves these words.
@@ -53,7 +53,7 @@ pub record Steps (relations : Relations) (words : List ℕ) (s : SessionFields) 
   pub after : Outside
   pub faultless : IsFaultless relations words before after
   pub does : Does before after s c s' line
-  pub unwanting : LacksNothing s'.history
+  pub unwanting : LacksNothing s'.verifier.history
   pub left : after.words.left ≡ Some rest
 
 -- the same of commands, one after the other
@@ -63,7 +63,7 @@ pub record Runs (relations : Relations) (words : List ℕ) (s : SessionFields) (
   pub after : Outside
   pub faultless : IsFaultless relations words before after
   pub follows : Follows before after s commands lines last
-  pub unwanting : LacksNothing last.history
+  pub unwanting : LacksNothing last.verifier.history
   pub left : after.words.left ≡ Some rest
 
 -- A run of some commands and then of more, which prints these lines: it goes through the session in which a run of the first ones
@@ -74,7 +74,7 @@ pub record GoesThrough (relations : Relations) (s : SessionFields) (words : List
   pub parts : lines ≡ first ++ others
   pub runs : Runs relations words s more last others rest
 
--- without a fault no nonce can be drawn for the command, since too few words are left
+-- without a fault no nonce or no secret can be drawn for the command, since too few words are left
 pub record IsDry (relations : Relations) (words : List ℕ) (s : SessionFields) (c : CommandFields) (s' : SessionFields) (rest : List ℕ) : Type 0 where
   pub before : Outside
   pub after : Outside

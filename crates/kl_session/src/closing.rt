@@ -1,20 +1,20 @@
-//! A session ends.
+//! A verifier ends.
 
-ghost use Rattle.std.specs.Prelude.{◌≡◌, ◌++◌, List, ℕ};
+ghost use Rattle.std.specs.Prelude.{◌≡◌, List, ℕ};
 ghost use Rattle.kl_history.specs.Legal.{Legal};
-ghost use Rattle.kl_history.specs.Records.{past_of};
+ghost use Rattle.kl_core.specs.Books.{past, with_more};
 ghost use Rattle.kl_session.specs.Closing.{AreOpen, IsEnded, drops};
 ghost use Rattle.kl_session.specs.Inner.Tickets.{AreTickets};
 
-use crate::session::Session;
+use crate::verifier::Verifier;
 use kl_core::Book;
 use kl_incr::Ticket;
 use kl_states::DropWhy;
 
 /// Drops the open polls, whose tickets these are, in their order.
 fn drop_all(book: &mut Book, mut tickets: Vec<Ticket>)
-    requires { AreTickets (past_of book.old) tickets.items }
-    ensures dropped { (polls : List ℕ) × AreOpen (past_of book.old) polls × (book.new ≡ book.old ++ drops polls) }
+    requires { AreTickets (past book.old) tickets.items }
+    ensures dropped { (polls : List ℕ) × AreOpen (past book.old) polls × (book.new ≡ with_more (drops polls) book.old) }
 {
     tickets.reverse();
     while let Some(ticket) = tickets.pop() {
@@ -27,19 +27,19 @@ fn drop_all(book: &mut Book, mut tickets: Vec<Ticket>)
     tickets.destroy_empty();
 }
 
-impl Session {
-    /// Ends the session. The polls that are open are dropped, in the order of their numbers.
-    pub fn close(self) -> Book
-        ensures ended { IsEnded self.history result }
-        ensures legal { Legal result }
+impl Verifier {
+    /// Ends the verifier. The polls that are open are dropped, in the order of their numbers.
+    pub(crate) fn close(self) -> Book
+        ensures ended { IsEnded self.history result.history }
+        ensures marks { result.marks ≡ self.marks }
+        ensures legal { Legal result.history }
     {
-        let Session {
+        let Verifier {
             mut book,
             tickets,
             moment: _,
-            latest,
+            latest: _,
         } = self;
-        drop(latest);
         drop_all(&mut book, tickets);
         let _len = book.len();
         book

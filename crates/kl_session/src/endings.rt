@@ -6,9 +6,9 @@ ghost use Rattle.kl_session.specs.Inner.Stopping.{IsShort};
 ghost use Rattle.kl_session.specs.Texts.{stopped_line, removed_line};
 
 use crate::refusals::say_refused;
-use crate::session::Session;
 use crate::stop::Stop;
 use crate::texts::{removed_line, stopped_line};
+use crate::verifier::Verifier;
 use kl_core::Refusal;
 use kl_states::AgentId;
 use std::alloc::Global;
@@ -35,7 +35,7 @@ fn say_removed(alloc: Global, agent: AgentId, answer: Result<(), Refusal>) -> Re
     }
 }
 
-impl Session {
+impl Verifier {
     /// Stops an agent.
     pub(crate) fn stop(&mut self, alloc: Global, agent: AgentId) -> Result<String, Stop>
         ensures done { IfOk result (λ line. DoesStop agent self.old self.new (string_bytes line)) }

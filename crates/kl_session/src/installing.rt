@@ -1,6 +1,6 @@
 //! Agents are installed.
 
-ghost use Rattle.std.specs.Prelude.{◌≡◌, IfOk, IfErr, Some, string_bytes};
+ghost use Rattle.std.specs.Prelude.{◌≡◌, ◌-◌, IfOk, IfErr, Some, string_bytes};
 ghost use Rattle.kl_session.specs.Installs.{DoesAdd, DoesReplace, DoesReactivate, says_installed, says_installed_or};
 ghost use Rattle.kl_session.specs.declared.naming.NoTerms.{NoTerms};
 ghost use Rattle.kl_session.specs.Outside.{Outside};
@@ -10,9 +10,9 @@ ghost use Rattle.kl_session.specs.Inner.Stopping.{IsShort, IsUnread};
 
 use crate::naming::{NamingFault, policy_of, terms_of};
 use crate::refusals::say_refused;
-use crate::session::Session;
 use crate::stop::Stop;
 use crate::texts::{installed_line, no_terms_line};
+use crate::verifier::Verifier;
 use kl_core::Refusal;
 use kl_exclude::PatternMaker;
 use kl_script::{Add, Replace};
@@ -49,6 +49,17 @@ fn say_installed_or<T: Drop>(
     }
 }
 
+/// Where a policy was installed last: at the end of a history that is so long, where it is now; else where it was before.
+fn newest_install<T>(answer: &Result<u64, T>, len: u64, before: u64) -> u64
+    ensures now { IfOk answer.now (λ generation. result ≡ len - 1) }
+    ensures before { IfErr answer.now (λ refused. result ≡ before) }
+{
+    match answer {
+        Ok(_) => len.saturating_sub(1),
+        Err(_) => before,
+    }
+}
+
 /// What is said of a command that names no terms. Want of memory has no line: it ends a session.
 fn say_unnamed(alloc: Global, fault: NamingFault) -> Result<String, Stop>
     ensures line { IfOk result (λ line. (why : NoTerms) × (fault ≡ NamingFault.None why)
@@ -61,7 +72,7 @@ fn say_unnamed(alloc: Global, fault: NamingFault) -> Result<String, Stop>
     }
 }
 
-impl Session {
+impl Verifier {
     /// Installs an agent under the terms that an add names.
     pub(crate) fn add<P: PatternMaker>(
         &mut self,
@@ -72,13 +83,14 @@ impl Session {
         ensures done { IfOk result (λ line. (o o' : Outside) → Tells o o' (P.told patterns.old) (P.told patterns.new)
             → DoesAdd o o' add self.old self.new (string_bytes line)) }
         ensures short { IfErr result (λ stop. (o o' : Outside) → Tells o o' (P.told patterns.old) (P.told patterns.new)
-            → IsUnread stop o o' self.old self.new (DoesAdd o o' add self.old self.new)) }
+            → IsUnread stop o o' add.kind self.old self.new (DoesAdd o o' add self.old self.new)) }
     {
         let agent = add.agent;
-        match terms_of(alloc, add, &mut self.latest, patterns) {
+        match terms_of(alloc, add, &self.book, self.latest, patterns) {
             Ok(terms) => {
                 let answer = self.book.add(alloc, agent, terms);
-                let _len = self.book.len();
+                let len = self.book.len();
+                self.latest = newest_install(&answer, len, self.latest);
                 say_installed_or(alloc, agent, answer)
             },
             Err(fault) => say_unnamed(alloc, fault),
@@ -95,17 +107,18 @@ impl Session {
         ensures done { IfOk result (λ line. (o o' : Outside) → Tells o o' (P.told patterns.old) (P.told patterns.new)
             → DoesReplace o o' replace self.old self.new (string_bytes line)) }
         ensures short { IfErr result (λ stop. (o o' : Outside) → Tells o o' (P.told patterns.old) (P.told patterns.new)
-            → IsUnread stop o o' self.old self.new (DoesReplace o o' replace self.old self.new)) }
+            → IsUnread stop o o' replace.kind self.old self.new (DoesReplace o o' replace self.old self.new)) }
     {
         let Replace {
             agent,
             kind,
             policy,
         } = replace;
-        match policy_of(alloc, kind, policy, &mut self.latest, patterns) {
+        match policy_of(alloc, kind, policy, &self.book, self.latest, patterns) {
             Ok(policy) => {
                 let answer = self.book.replace(alloc, &agent, policy);
-                let _len = self.book.len();
+                let len = self.book.len();
+                self.latest = newest_install(&answer, len, self.latest);
                 say_installed_or(alloc, agent, answer)
             },
             Err(fault) => say_unnamed(alloc, fault),

@@ -1,14 +1,16 @@
 //! The terms that a command names.
 
-ghost use Rattle.std.specs.Prelude.{IfOk, IfErr};
+ghost use Rattle.std.specs.Prelude.{IfOk, IfErr, IfSome};
 ghost use Rattle.kl_appraise.specs.Terms.{AreTerms};
+ghost use Rattle.kl_history.specs.Records.{History};
 ghost use Rattle.kl_policy.specs.Reading.{IsPolicy};
 ghost use Rattle.kl_session.specs.Outside.{Outside};
-ghost use Rattle.kl_session.specs.Terms.{NamesTerms, Reads};
+ghost use Rattle.kl_session.specs.Terms.{NamesTerms, Reads, WasInstalled};
 ghost use Rattle.kl_session.specs.Inner.Naming.{IsPolicyFault, IsTermsFault, Tells};
 
 use kl_appraise::{Terms, TermsFault};
 use kl_base::Memory;
+use kl_core::{Book, Record};
 use kl_exclude::{ExcludeFault, PatternMaker};
 use kl_json::JsonFault;
 use kl_policy::{Limit, Policy, PolicyFault, PolicyKind, read_policy};
@@ -91,27 +93,34 @@ impl From<Memory> for NamingFault {
     }
 }
 
-/// The policy that a text is: the one that was read last, where that was of the same text and form.
+/// The policy that a text is: that of the record at the place `latest`, where that installed one of the same text and
+/// form.
 pub fn policy_of<P: PatternMaker>(
     alloc: Global,
     kind: PolicyKind,
     text: Text,
-    latest: &mut Option<Policy>,
+    book: &Book,
+    latest: u64,
     maker: &mut P,
 ) -> Result<Policy, NamingFault>
     ensures policy { IfOk result (IsPolicy kind text) }
-    ensures reads { IfOk result (λ p. (o o' : Outside) → Tells o o' (P.told maker.old) (P.told maker.new) → Reads o o' kind p) }
+    ensures reads { IfOk result (λ p. (o o' : Outside) → Tells o o' (P.told maker.old) (P.told maker.new) → Reads o o' book.now.history kind p) }
     ensures fault { IfErr result (λ f. (o o' : Outside) → Tells o o' (P.told maker.old) (P.told maker.new) → IsPolicyFault o o' kind text f) }
 {
-    if let Some(policy) = latest {
-        if policy.is_of(kind, text.as_str()) {
-            return Ok(policy.share()?);
-        }
+    match installed_at(book, latest) {
+        Some(policy) if policy.is_of(kind, text.as_str()) => Ok(policy.share()?),
+        _ => read(alloc, kind, text, maker),
     }
-    let policy = read(alloc, kind, text, maker)?;
-    // Where it can't be shared, it is read again.
-    *latest = policy.share().ok();
-    Ok(policy)
+}
+
+/// The policy that the record at a place installed, where it is an install.
+fn installed_at(book: &Book, place: u64) -> Option<&Policy>
+    ensures { IfSome result (λ policy. WasInstalled book.now.history policy.now) }
+{
+    match book.record(place) {
+        Some(Record::Install { terms, .. }) => Some(terms.terms().policy()),
+        _ => None,
+    }
 }
 
 /// Reads a policy.
@@ -122,7 +131,7 @@ fn read<P: PatternMaker>(
     maker: &mut P,
 ) -> Result<Policy, NamingFault>
     ensures policy { IfOk result (IsPolicy kind text) }
-    ensures reads { IfOk result (λ p. (o o' : Outside) → Tells o o' (P.told maker.old) (P.told maker.new) → Reads o o' kind p) }
+    ensures reads { IfOk result (λ p. (o o' : Outside) (H : History) → Tells o o' (P.told maker.old) (P.told maker.new) → Reads o o' H kind p) }
     ensures fault { IfErr result (λ f. (o o' : Outside) → Tells o o' (P.told maker.old) (P.told maker.new) → IsPolicyFault o o' kind text f) }
 {
     match read_policy(alloc, kind, text.into_string(), maker) {
@@ -136,15 +145,16 @@ fn read<P: PatternMaker>(
 pub fn terms_of<P: PatternMaker>(
     alloc: Global,
     add: Add,
-    latest: &mut Option<Policy>,
+    book: &Book,
+    latest: u64,
     maker: &mut P,
 ) -> Result<Terms, NamingFault>
     ensures names { IfOk result (λ t. NamesTerms add t) }
     ensures good { IfOk result (λ t. AreTerms t) }
-    ensures reads { IfOk result (λ t. (o o' : Outside) → Tells o o' (P.told maker.old) (P.told maker.new) → Reads o o' add.kind t.policy) }
-    ensures fault { IfErr result (λ f. (o o' : Outside) → Tells o o' (P.told maker.old) (P.told maker.new) → IsTermsFault o o' add f) }
+    ensures reads { IfOk result (λ t. (o o' : Outside) → Tells o o' (P.told maker.old) (P.told maker.new) → Reads o o' book.now.history add.kind t.policy) }
+    ensures fault { IfErr result (λ f. (o o' : Outside) → Tells o o' (P.told maker.old) (P.told maker.new) → IsTermsFault o o' book.now.history add f) }
 {
-    let policy = match policy_of(alloc, add.kind, add.policy, latest, maker) {
+    let policy = match policy_of(alloc, add.kind, add.policy, book, latest, maker) {
         Ok(policy) => policy,
         Err(fault) => return Err(fault),
     };

@@ -3,17 +3,18 @@
 ghost use Rattle.std.specs.Prelude.{◌≡◌, IfOk, IfErr, IfSome, None, ℕ, string_bytes};
 ghost use Rattle.kl_session.specs.Outside.{outside};
 ghost use Rattle.kl_session.specs.Polls.{HasNonce, BeginsWith, DoesBegin};
-ghost use Rattle.kl_session.specs.Stopped.{DrawsNone};
+ghost use Rattle.kl_session.specs.Drawing.{DrawsNone};
 ghost use Rattle.kl_session.specs.Texts.{polled_line};
 ghost use Rattle.kl_session.specs.Inner.Stopping.{IsShort, IsUnbegun};
 ghost use Rattle.kl_exclude.specs.Told.{MakerTold};
 ghost use Rattle.kl_keys.specs.Told.{KeysTold};
 ghost use Rattle.hex.specs.Hex.{encode_lower};
 
+use crate::drawing::draw;
 use crate::refusals::say_refused;
-use crate::session::Session;
 use crate::stop::Stop;
 use crate::texts::polled_line;
+use crate::verifier::Verifier;
 use kl_incr::Ticket;
 use kl_io::Words;
 use kl_script::Begin;
@@ -36,16 +37,15 @@ fn nonce_from(drawn: &[u8; 16]) -> Nonce
 fn nonce_of<N: Words>(named: Option<Nonce>, nonces: &mut N) -> Option<Nonce>
     ensures some { IfSome result (λ nonce. (keys : KeysTold) (maker : MakerTold) (steps : ℕ) → HasNonce (outside keys (N.told nonces.old) maker steps)
         (outside keys (N.told nonces.new) maker steps) named nonce) }
-    ensures none { result ≡ None → (named ≡ None) × ((keys : KeysTold) (maker : MakerTold) (steps : ℕ) → DrawsNone (outside keys (N.told nonces.old) maker steps)
+    ensures none { result ≡ None → (named ≡ None) × ((keys : KeysTold) (maker : MakerTold) (steps : ℕ) → DrawsNone 16 (outside keys (N.told nonces.old) maker steps)
         (outside keys (N.told nonces.new) maker steps)) }
 {
     match named {
         Some(nonce) => Some(nonce),
         None => {
-            let mut drawn = [0; 16];
-            match nonces.fill(&mut drawn) {
-                Ok(()) => Some(nonce_from(&drawn)),
-                Err(_) => None,
+            match draw(nonces) {
+                Some(drawn) => Some(nonce_from(&drawn)),
+                None => None,
             }
         },
     }
@@ -59,7 +59,7 @@ fn say_polled(alloc: Global, ticket: &Ticket) -> Result<String, Stop>
     Ok(polled_line(alloc, ticket)?)
 }
 
-impl Session {
+impl Verifier {
     /// Begins a poll of an agent.
     pub(crate) fn begin<N: Words>(
         &mut self,

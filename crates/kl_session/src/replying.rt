@@ -1,11 +1,11 @@
 //! Replies close their polls.
 
-ghost use Rattle.std.specs.Prelude.{◌≡◌, ◌++◌, ◌∷◌, [], IfOk, IfErr, string_bytes};
+ghost use Rattle.std.specs.Prelude.{◌≡◌, ◌∷◌, [], IfOk, IfErr, string_bytes};
 ghost use Rattle.kl_exclude.specs.Told.{MakerTold};
 ghost use Rattle.kl_io.specs.Told.{WordsTold};
 ghost use Rattle.kl_history.specs.declared.record.Record.TheVariants.{Dropped};
 ghost use Rattle.kl_history.specs.Legal.{Legal};
-ghost use Rattle.kl_history.specs.Records.{past_of};
+ghost use Rattle.kl_core.specs.Books.{past, with_more};
 ghost use Rattle.kl_core.specs.Tickets.{IsOpenTicket};
 ghost use Rattle.kl_script.specs.Commands.{reply_fields};
 ghost use Rattle.kl_session.specs.Outside.{outside};
@@ -16,10 +16,10 @@ ghost use Rattle.kl_session.specs.Inner.Closed.{ClosesBook, IsFound};
 ghost use Rattle.kl_session.specs.Inner.Stopping.{IsUndone};
 
 use crate::refusals::say_refused;
-use crate::session::Session;
 use crate::stop::Stop;
 use crate::texts::closed_line;
 use crate::tickets::take_ticket;
+use crate::verifier::Verifier;
 use kl_core::{Book, Closed, ClosedAs, Refusal};
 use kl_incr::{Appraised, Ticket, appraise_from};
 use kl_keys::Keys;
@@ -32,12 +32,12 @@ use std::sync::ledger::Ledger;
 
 /// Closes an open poll by what was found.
 fn finish(book: &mut Book, done: Appraised) -> Closed
-    requires { IsOpenTicket (past_of book.old) done.ticket }
-    ensures closed { IsClosed (past_of book.old) (record_by done.ticket.poll done.evidence done.signed done.finding result.current)
+    requires { IsOpenTicket (past book.old) done.ticket }
+    ensures closed { IsClosed (past book.old) (record_by done.ticket.poll done.evidence done.signed done.finding result.current)
         done.ticket (closed_by done.finding) result }
-    ensures history { book.new ≡ book.old ++ record_by done.ticket.poll done.evidence done.signed done.finding result.current ∷ [] }
-    ensures legal { Legal book.new }
-    ensures found { IsFound (past_of book.old) done.ticket.poll done.evidence done.signed done.finding }
+    ensures history { book.new ≡ with_more (record_by done.ticket.poll done.evidence done.signed done.finding result.current ∷ []) book.old }
+    ensures legal { Legal book.new.history }
+    ensures found { IsFound (past book.old) done.ticket.poll done.evidence done.signed done.finding }
 {
     let closed = match book.finish_own(done) {
         Ok(closed) => closed,
@@ -49,10 +49,10 @@ fn finish(book: &mut Book, done: Appraised) -> Closed
 
 /// Drops an open poll.
 fn drop_poll(book: &mut Book, ticket: Ticket, why: DropWhy) -> Closed
-    requires { IsOpenTicket (past_of book.old) ticket }
-    ensures closed { IsClosed (past_of book.old) (Dropped ticket.poll why) ticket (ClosedAs.Dropped why) result }
-    ensures history { book.new ≡ book.old ++ Dropped ticket.poll why ∷ [] }
-    ensures legal { Legal book.new }
+    requires { IsOpenTicket (past book.old) ticket }
+    ensures closed { IsClosed (past book.old) (Dropped ticket.poll why) ticket (ClosedAs.Dropped why) result }
+    ensures history { book.new ≡ with_more (Dropped ticket.poll why ∷ []) book.old }
+    ensures legal { Legal book.new.history }
 {
     let closed = match book.drop_own(ticket, why) {
         Ok(closed) => closed,
@@ -71,10 +71,10 @@ fn close_poll<Y: Keys, L: Ledger>(
     keys: &mut Y,
     steps: &mut Steps<L>,
 ) -> Closed
-    requires { IsOpenTicket (past_of book.old) ticket }
+    requires { IsOpenTicket (past book.old) ticket }
     ensures closes { (words : WordsTold) (maker : MakerTold) → ClosesBook (outside (Y.told keys.old) words maker steps.old) (outside (Y.told keys.new) words maker steps.new)
         book.old ticket evidence result book.new }
-    ensures legal { Legal book.new }
+    ensures legal { Legal book.new.history }
 {
     match appraise_from(alloc, ticket, evidence, keys, steps) {
         Ok(appraised) => finish(book, appraised),
@@ -83,14 +83,14 @@ fn close_poll<Y: Keys, L: Ledger>(
 }
 
 /// What is said of a poll that was closed.
-fn say_closed(alloc: Global, closed: Closed) -> Result<String, Stop>
+pub fn say_closed(alloc: Global, closed: Closed) -> Result<String, Stop>
     ensures line { IfOk result (λ line. string_bytes line ≡ closed_line closed) }
     ensures short { IfErr result (λ stop. stop ≡ Stop.Memory) }
 {
     Ok(closed_line(alloc, closed)?)
 }
 
-impl Session {
+impl Verifier {
     /// Closes a poll by a reply.
     pub(crate) fn reply<Y: Keys, L: Ledger>(
         &mut self,

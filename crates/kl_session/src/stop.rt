@@ -8,7 +8,7 @@ use std::alloc::AllocError;
 /// Why a session goes on no further.
 #[derive(Clone, Copy, Debug, PartialEq, Eq)]
 pub enum Stop {
-    /// A nonce was to be drawn, and the words met a fault or have too few bytes left.
+    /// A nonce or a secret was to be drawn, and the words met a fault or have too few bytes left.
     NoNonce,
     /// Memory ran out.
     Memory,

@@ -1,12 +1,17 @@
 //! The lines that a session prints.
 
-ghost use Rattle.std.specs.Prelude.{◌≡◌, IfOk, Some, string_bytes};
+ghost use Rattle.std.specs.Prelude.{◌≡◌, ◌++◌, IfOk, Some, None, string_bytes};
 ghost use Rattle.kl_session.specs.Texts.{
   closed_line,
   installed_line,
+  newline,
+  no_notice_line,
   no_terms_text,
+  notice_line,
+  noticed_line,
   now_line,
   op_text,
+  picked_line,
   polled_line,
   refused_line,
   removed_line,
@@ -140,4 +145,42 @@ pub fn closed_line(alloc: Global, closed: Closed) -> Result<String, AllocError>
         ClosedAs::Lost(why) => format!(in alloc; "lost {poll} {why} {current} state {state}\n"),
         ClosedAs::Dropped(why) => format!(in alloc; "dropped {poll} {why} state {state}\n"),
     }
+}
+
+/// Which agent is polled next.
+pub fn picked_line(alloc: Global, picked: Option<AgentId>) -> Result<String, AllocError>
+    ensures { IfOk result (λ line. string_bytes line ≡ picked_line picked) }
+{
+    match picked {
+        Some(agent) => format!(in alloc; "due {agent}\n"),
+        None => String::from_str(alloc, "due none\n"),
+    }
+}
+
+/// A notice, by its text.
+pub fn told_line(alloc: Global, text: &str) -> Result<String, AllocError>
+    ensures { IfOk result (λ line. string_bytes line ≡ text.now ++ newline) }
+{
+    format!(in alloc; "{text}\n")
+}
+
+/// No notice is to be delivered.
+pub fn none_noticed_line(alloc: Global) -> Result<String, AllocError>
+    ensures { IfOk result (λ line. string_bytes line ≡ notice_line None) }
+{
+    String::from_str(alloc, "notice none\n")
+}
+
+/// A notice is delivered.
+pub fn noticed_line(alloc: Global, number: u64) -> Result<String, AllocError>
+    ensures { IfOk result (λ line. string_bytes line ≡ noticed_line number) }
+{
+    format!(in alloc; "noticed {number}\n")
+}
+
+/// A notice of this number is not the next to be delivered.
+pub fn no_notice_line(alloc: Global, number: u64) -> Result<String, AllocError>
+    ensures { IfOk result (λ line. string_bytes line ≡ no_notice_line number) }
+{
+    format!(in alloc; "refused nonotice {number}\n")
 }

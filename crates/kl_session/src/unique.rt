@@ -49,5 +49,5 @@ pub fn later_moments()
         → IsFaultless r words o o' → GoesOn then o' → IsFaultless r words o then }
     ensures rest { (r : Relations) (words left : List ℕ) (o then o' : Outside)
         → IsFaultless r words o o' → GoesOn o then → then.words.left ≡ Some left → IsFaultless r left then o' }
-    ensures unwanting { (s s' : SessionFields) → Grows s s' → LacksNothing s'.history → LacksNothing s.history }
+    ensures unwanting { (s s' : SessionFields) → Grows s s' → LacksNothing s'.verifier.history → LacksNothing s.verifier.history }
 {}

@@ -1,9 +1,9 @@
 -- What is written of a text.
-use Rattle.std.specs.Prelude.{◌≡◌, ℕ, true, List, ◌++◌, Result, Ok, Err}
+use Rattle.std.specs.Prelude.{◌≡◌, ◌≢◌, ℕ, List, [], ◌++◌, Result, Ok, Err}
 use Rattle.std.specs.Io.KnownBytes.{Appends}
 use Rattle.kl_io.specs.Told.{SinkTold}
 use Rattle.kl_console.specs.Calls.{count_after}
-use Rattle.kl_console.specs.Script.{is_text, puts_of}
+use Rattle.kl_console.specs.Script.{puts_of}
 use Rattle.kl_console.specs.declared.ending.End.{End}
 use Rattle.kl_console.specs.declared.ending.End.TheVariants.{WriteFault, Memory}
 
@@ -14,7 +14,7 @@ pub record Writes (out out' : SinkTold) (text : List ℕ) (puts : ℕ) : Type 0 
 
 -- of a text that is not empty, one put wrote a front
 pub record WritesFront (out out' : SinkTold) (text : List ℕ) : Type 0 where
-  pub some : is_text text ≡ true
+  pub some : text ≢ []
   pub front : List ℕ
   pub lost : List ℕ
   pub parts : text ≡ front ++ lost

@@ -1,8 +1,8 @@
 -- One turn of a run: a line is read, what it says is done, and the text of that is printed.
-use Rattle.std.specs.Prelude.{◌≡◌, ◌⊎◌, ℕ, ◌+◌, List, ◌++◌, Result, Ok, Err}
+use Rattle.std.specs.Prelude.{◌≡◌, ◌⊎◌, ℕ, ◌+◌, ◌≤◌, List, ◌++◌, length, Result, Ok, Err}
 use Rattle.kl_io.specs.Told.{SinkTold}
 use Rattle.kl_script.specs.Commands.{CommandFields, Spells}
-use Rattle.kl_history.specs.Records.{History}
+use Rattle.kl_core.specs.Books.{BookFields}
 use Rattle.kl_session.specs.declared.stop.Stop.{Stop}
 use Rattle.kl_session.specs.declared.stop.Stop.TheVariants as stop
 use Rattle.kl_session.specs.Outside.{Outside}
@@ -10,7 +10,7 @@ use Rattle.kl_session.specs.Calls.{SessionFields}
 use Rattle.kl_session.specs.Session.{Does}
 use Rattle.kl_session.specs.Stopped.{IsStopped}
 use Rattle.kl_console.specs.Script.{Executed, script_of, offset_of, printed, puts_of, puts_before, next_number, fault_line, SpellsNone}
-use Rattle.kl_console.specs.Run.{Moment, Ran, IsHistory, IsDone, IsFaulty, IsBroken, IsCutOff, IsDry, IsOver, IsShort}
+use Rattle.kl_console.specs.Run.{Moment, Ran, IsBook, IsDone, IsFaulty, IsBroken, IsCutOff, LacksWords, IsOver, LacksMemory}
 use Rattle.kl_console.specs.Inner.Reading.{Reading}
 use Rattle.kl_console.specs.Inner.Printing.{Writes, WritesFront}
 use Rattle.kl_console.specs.declared.ending.End.{End}
@@ -25,39 +25,41 @@ Performs o o' s s' c out out' (Err Memory) = IsStopped stop.Memory o o' s c s' �
 Performs o o' s s' c out out' (Err _) = ⊥
 
 -- what was written of the word that the line of this number is bad, which ends a run so
-abbrev pub Complains : ℕ → End → SinkTold → SinkTold → Result (Unit {0}) End → Type 0
-Complains number bad out out' (Ok done) = ⊥
-Complains number bad out out' (Err WriteFault) = WritesFront out out' (fault_line number)
-Complains number bad out out' (Err Memory) = out' ≡ out
-Complains number bad out out' (Err end) = (end ≡ bad) × Writes out out' (fault_line number) 1
+abbrev pub WritesFault : ℕ → End → SinkTold → SinkTold → Result (Unit {0}) End → Type 0
+WritesFault number bad out out' (Ok done) = ⊥
+WritesFault number bad out out' (Err WriteFault) = WritesFront out out' (fault_line number)
+WritesFault number bad out out' (Err Memory) = out' ≡ out
+WritesFault number bad out out' (Err end) = (end ≡ bad) × Writes out out' (fault_line number) 1
 
 -- how a line went, whose number this is
 abbrev pub Answers : ℕ → List ℕ → Outside → Outside → SessionFields → SessionFields → SinkTold → SinkTold → Result (Unit {0}) End → Type 0
 Answers number line o o' s s' out out' result =
     ((c : CommandFields) × Spells line c × Performs o o' s s' c out out' result)
-    ⊎ ((o' ≡ o) × (s' ≡ s) × (SpellsNone line ⊎ (result ≡ Err Memory)) × Complains number Fault out out' result)
+    ⊎ ((o' ≡ o) × (s' ≡ s) × (SpellsNone line ⊎ (result ≡ Err Memory)) × WritesFault number Fault out out' result)
 
 -- what a run has come to after some lines
 pub record Played (before now : Moment) (r : Reading) (s : SessionFields) (number : ℕ) : Type 0 where
   pub executed : Executed before.outside now.outside
   pub ran : Ran before now (script_of executed ++ r.ahead) (printed executed) (puts_before executed)
+  -- no read gave nothing yet
+  pub reads : now.script.calls.made ≤ before.script.calls.made + length (script_of executed ++ r.ahead)
   pub at : executed.last ≡ s
   pub passed : r.passed ≡ offset_of executed
   pub numbered : number ≡ next_number executed
 
--- what was read and written in all, by how a run ended, with this history
-unfoldable pub EndsBy : Moment → Moment → History → End → Type 0
-EndsBy before after H Done = IsDone before after H
-EndsBy before after H Fault = IsFaulty before after H
-EndsBy before after H ReadFault = IsBroken before after H
-EndsBy before after H WriteFault = IsCutOff before after H
-EndsBy before after H NoNonce = IsDry before after H
-EndsBy before after H Over = IsOver before after H
-EndsBy before after H Memory = IsShort before after H
+-- what was read and written in all, by how a run ended, with this book
+unfoldable pub EndsBy : Moment → Moment → BookFields → End → Type 0
+EndsBy before after B Done = IsDone before after B
+EndsBy before after B Fault = IsFaulty before after B
+EndsBy before after B ReadFault = IsBroken before after B
+EndsBy before after B WriteFault = IsCutOff before after B
+EndsBy before after B NoNonce = LacksWords before after B
+EndsBy before after B Over = IsOver before after B
+EndsBy before after B Memory = LacksMemory before after B
 
 -- the same, once the session is ended
 abbrev pub Ends : Moment → Moment → SessionFields → End → Type 0
-Ends before after s end = (H : History) → IsHistory s H → EndsBy before after H end
+Ends before after s end = (B : BookFields) → IsBook s B → EndsBy before after B end
 
 -- what a run has come to, and a turn more
 abbrev pub PlaysOn : Moment → Moment → Reading → SessionFields → ℕ → Result (Unit {0}) End → Type 0

@@ -17,9 +17,12 @@ use Rattle.kl_history.specs.Accepted.{WasAccepted}
 use Rattle.kl_history.specs.States.{ended, HasReached}
 use Rattle.kl_history.specs.Legal.{is_add, is_remove, IsBusy, weight_of, Fits, IsLegalPast}
 use Rattle.kl_core.specs.declared.entry.Entry.{Entry}
+use Rattle.kl_core.specs.declared.entry.Begun.{Begun}
 use Rattle.kl_core.specs.declared.entry.Opening.{Opening}
 use Rattle.kl_core.specs.States.{Accepted}
+use Rattle.kl_core.specs.Picks.{begun_at}
 use Rattle.kl_core.specs.Tickets.{IsGiven}
+use Rattle.kl_core.specs.Inner.Steps.{latest_poll}
 
 abbrev pub terms_by : Record → Option TermsFields
 terms_by (Install a g t w) = Some t
@@ -35,11 +38,13 @@ pub record Says (own_past : Past) (t : TermsFields) (e : Entry) : Type 0 where
   pub v_is : is_some t.v ≡ e.has_v
   pub end_is : ended own_past ≡ e.end
   pub losses_are : losses own_past ≡ e.losses
+  pub few_losses : e.losses ≤ 5
   pub none_missed : missed own_past ≡ 0
   pub none_reached : (boot : Boot) → ¬ (HasReached own_past boot)
   pub pass_is : option_map (λ (p : Passing). p.poll) (last_pass own_past) ≡ e.pass
   pub accepted : Accepted own_past e.accepted
   pub polled : came is_begin own_past ≡ is_some e.latest
+  pub begun : begun_at own_past ≡ option_map (λ (b : Begun). b.at) e.latest
 
 -- the poll is the agent's, and was begun under this generation
 pub record IsPollOf (past : Past) (a : List ℕ) (g q : ℕ) : Type 0 where
@@ -54,8 +59,8 @@ pub record IsEntry (H : History) (past : Past) (a : List ℕ) (e : Entry) : Type
   pub place_is : terms_at H e.place ≡ Some with
   pub named : terms_of past e.generation ≡ Some with
   pub says : Says (own past a) with e
-  pub busy_is_latest : (q : ℕ) → IsBusy past a e.generation q → e.latest ≡ Some q
-  pub latest_is_its : (q : ℕ) → e.latest ≡ Some q → IsPollOf past a e.generation q
+  pub busy_is_latest : (q : ℕ) → IsBusy past a e.generation q → latest_poll e ≡ Some q
+  pub latest_is_its : (q : ℕ) → latest_poll e ≡ Some q → IsPollOf past a e.generation q
 
 abbrev pub HasEntry : History → Past → List ℕ → Option Entry → Type 0
 HasEntry H past a None = installed (own past a) ≡ None

@@ -1,5 +1,6 @@
 -- What a book's parts do.
-use Rattle.std.specs.Prelude.{◌≡◌, ℕ, Bool, ◌&&◌, if◌then◌else◌, ◌==◌, List, Option, None, Some, is_some}
+use Rattle.std.specs.Prelude.{◌≡◌, ℕ, ◌+◌, Bool, ◌&&◌, if◌then◌else◌, ◌==◌, List, Option, None, Some, is_some}
+use Rattle.std.specs.Option.{option_map}
 use Rattle.std.specs.Ordering.{nat_cmp}
 use Rattle.std.specs.Cmp.Lexicographic.{slice_cmp}
 use Rattle.std.specs.BTreeMap.{BTreeMap, Updates, IsUnchanged}
@@ -12,10 +13,15 @@ use Rattle.kl_appraise.specs.declared.judged.Outcome.TheVariants.{Verdict, Resta
 use Rattle.kl_history.specs.Records.{Past, own}
 use Rattle.kl_history.specs.LookBacks.{installed}
 use Rattle.kl_history.specs.Legal.{HasRoom, HasBytes}
+use Rattle.kl_core.specs.declared.entry.Begun.{Begun}
 use Rattle.kl_core.specs.declared.entry.Entry.{Entry}
 use Rattle.kl_core.specs.declared.refusal.Refusal.{Refusal}
 use Rattle.kl_core.specs.declared.refusal.Refusal.TheVariants.{NoAgent, WrongState, JournalRecords, JournalBytes}
 use Rattle.kl_core.specs.Endings.{HasEnded}
+
+-- the last poll of an agent, open or not
+abbrev pub latest_poll : Entry → Option ℕ
+latest_poll e = option_map (λ (b : Begun). b.poll) e.latest
 
 -- the state of a live agent, by what is kept of it
 abbrev pub live_op : Entry → Op
@@ -36,9 +42,13 @@ fresh g place v = record { generation = g; place = place; has_v = v; end = None;
 abbrev pub stopped : Entry → Entry
 stopped e = record e { end = Some op.TenantFailed }
 
--- what is kept of an agent after a poll of it began
-abbrev pub polled : ℕ → Entry → Entry
-polled p e = record e { latest = Some p }
+-- what is kept of an agent after a poll of it began at a moment
+abbrev pub polled : ℕ → ℕ → Entry → Entry
+polled p at e = record e { latest = Some (record { poll = p; at = at }) }
+
+-- what is kept of an agent after a current loss: the fifth in a row fails it
+abbrev pub lost : Entry → Entry
+lost e = record e { losses = e.losses + 1; end = if e.losses + 1 == 5 then Some op.Failed else e.end }
 
 -- what is kept of an agent after a poll of it was closed by a current finding, of which so many entries are accepted
 abbrev pub found : ℕ → Finding → ℕ → Entry → Entry

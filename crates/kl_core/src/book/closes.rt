@@ -1,46 +1,56 @@
 //! Polls are closed.
 
-ghost use Rattle.std.specs.Prelude.{◌≡◌, ◌↔◌, ◌++◌, ◌∷◌, [], true, IsTrue};
-ghost use Rattle.kl_history.specs.declared.record.Record.TheVariants.{Dropped as DroppedRecord};
-ghost use Rattle.kl_history.specs.Records.{past_of, is_open};
+ghost use Rattle.std.specs.Prelude.{◌≡◌, ◌↔◌, ◌∷◌, [], true, IsTrue};
+ghost use Rattle.kl_history.specs.Records.{is_open};
+ghost use Rattle.kl_core.specs.Books.{past, with_more};
 ghost use Rattle.kl_core.specs.Tickets.{IsGiven, IsOpenTicket};
-ghost use Rattle.kl_incr.specs.Appraisal.{IsAppraisal};
-ghost use Rattle.kl_core.specs.Closes.{IsClosed, closed_by, record_by, OwnFinishes, Finishes, finish_makes, OwnDrops, Drops, drop_makes};
+ghost use Rattle.kl_core.specs.Closes.{IsClosed, closed_by, found_record, OwnFinishes, Finishes, finish_makes, OwnLoses, Loses, lose_makes, OwnDrops, Drops, drop_makes};
+ghost use Rattle.kl_core.specs.Inner.Closing.{close_as, close_record, IsCloseOf};
 
 use super::Book;
-use crate::agents::{found_if, note_if, op_now};
-use crate::closed::{Closed, ClosedAs};
-use crate::closing::{accepted_by, closed_by, record_by, weight_of};
+use crate::agents::{closed_if, note_if, op_now};
+use crate::closed::Closed;
+use crate::closing::Close;
+use crate::failing::post_if;
 use crate::openings::take_opening;
 use crate::refusal::Refusal;
-use kl_history::Record;
 use kl_incr::{Appraised, Parts, Ticket};
-use kl_states::DropWhy;
+use kl_states::{DropWhy, LostWhy};
 
 impl Book {
-    /// Closes a poll by what the appraisal of its evidence found; the ticket is the one that its begin gave.
-    ///
-    /// # Errors
-    /// `NoPoll` where the poll is not open.
-    pub fn finish_own(&mut self, done: Appraised) -> Result<Closed, (Refusal, Appraised)>
-        requires { IsGiven (past_of self.old) done.ticket }
-        ensures answer { OwnFinishes done result (past_of self.old) }
-        ensures history { self.new ≡ self.old ++ finish_makes done result (past_of self.old) }
+    /// Closes an open poll by this.
+    fn close(&mut self, ticket: Ticket, by: Close) -> Closed
+        requires given { IsGiven (past self.old) ticket }
+        requires opened { is_open (past self.old) ticket.poll ≡ true }
+        requires holds { IsCloseOf ticket by }
+        ensures answer { IsClosed (past self.old) (close_record ticket.poll by result.current) ticket (close_as by) result }
+        ensures history { self.new ≡ with_more (close_record ticket.poll by result.current ∷ []) self.old }
     {
-        let poll = done.ticket().poll();
-        if !self.is_open(poll) {
-            return Err((Refusal::NoPoll(poll), done));
+        let (poll, agent) = (ticket.poll(), ticket.agent());
+        let entry = self.current_entry(&agent, ticket.generation());
+        ticket.discard();
+        let (current, as_what) = (entry.is_some(), by.as_what());
+        let noted = closed_if(entry, poll, &by);
+        note_if(&mut self.agents, &agent, noted);
+        take_opening(&mut self.polls, poll);
+        post_if(&mut self.outbox, agent, noted, by.why());
+        self.weight += by.weight();
+        self.records.push_reserved(by.into_record(poll, current));
+        Closed {
+            poll,
+            agent,
+            as_what,
+            current,
+            op: op_now(&self.agents, &agent),
         }
-        Ok(self.close_found(done.into_parts()))
     }
 
     /// Closes an open poll by what was found.
-    fn close_found(&mut self, done: Parts) -> Closed
-        requires given { IsGiven (past_of self.old) done.ticket }
-        requires opened { is_open (past_of self.old) done.ticket.poll ≡ true }
-        requires holds { IsAppraisal done.ticket done.evidence done.signed done.finding done.next }
-        ensures answer { IsClosed (past_of self.old) (record_by done.ticket.poll done.evidence done.signed done.finding result.current) done.ticket (closed_by done.finding) result }
-        ensures history { self.new ≡ self.old ++ record_by done.ticket.poll done.evidence done.signed done.finding result.current ∷ [] }
+    fn close_found(&mut self, done: Appraised) -> Closed
+        requires given { IsGiven (past self.old) done.ticket }
+        requires opened { is_open (past self.old) done.ticket.poll ≡ true }
+        ensures answer { IsClosed (past self.old) (found_record done result.current) done.ticket (closed_by done.finding) result }
+        ensures history { self.new ≡ with_more (found_record done result.current ∷ []) self.old }
     {
         let Parts {
             ticket,
@@ -48,66 +58,21 @@ impl Book {
             signed,
             finding,
             next,
-        } = done;
-        let (poll, agent) = (ticket.poll(), ticket.agent());
-        let entry = self.current_entry(&agent, ticket.generation());
-        ticket.discard();
-        let current = entry.is_some();
-        let noted = found_if(entry, poll, finding, accepted_by(next));
-        note_if(&mut self.agents, &agent, noted);
-        take_opening(&mut self.polls, poll);
-        self.weight += weight_of(&evidence);
-        self.records
-            .push_reserved(record_by(poll, evidence, signed, finding, current));
-        Closed {
-            poll,
-            agent,
-            as_what: closed_by(finding),
-            current,
-            op: op_now(&self.agents, &agent),
-        }
-    }
-
-    /// Closes a poll without counting it for or against its agent; the ticket is the one that its begin gave.
-    ///
-    /// # Errors
-    /// `NoPoll` where the poll is not open.
-    pub fn drop_own(&mut self, ticket: Ticket, why: DropWhy) -> Result<Closed, (Refusal, Ticket)>
-        requires { IsGiven (past_of self.old) ticket }
-        ensures answer { OwnDrops ticket why result (past_of self.old) }
-        ensures history { self.new ≡ self.old ++ drop_makes ticket why result (past_of self.old) }
-    {
-        let poll = ticket.poll();
-        if !self.is_open(poll) {
-            return Err((Refusal::NoPoll(poll), ticket));
-        }
-        Ok(self.close_dropped(ticket, why))
-    }
-
-    /// Drops an open poll.
-    fn close_dropped(&mut self, ticket: Ticket, why: DropWhy) -> Closed
-        requires given { IsGiven (past_of self.old) ticket }
-        requires opened { is_open (past_of self.old) ticket.poll ≡ true }
-        ensures answer { IsClosed (past_of self.old) (DroppedRecord ticket.poll why) ticket (ClosedAs.Dropped why) result }
-        ensures history { self.new ≡ self.old ++ DroppedRecord ticket.poll why ∷ [] }
-    {
-        let (poll, agent) = (ticket.poll(), ticket.agent());
-        let current = self.current_entry(&agent, ticket.generation()).is_some();
-        ticket.discard();
-        take_opening(&mut self.polls, poll);
-        self.records.push_reserved(Record::Dropped { poll, why });
-        Closed {
-            poll,
-            agent,
-            as_what: ClosedAs::Dropped(why),
-            current,
-            op: op_now(&self.agents, &agent),
-        }
+        } = done.into_parts();
+        self.close(
+            ticket,
+            Close::Found {
+                evidence,
+                signed,
+                finding,
+                next,
+            },
+        )
     }
 
     /// Whether a ticket is the one that the begin of an open poll gave, by value.
     fn holds(&self, ticket: &Ticket) -> bool
-        ensures { IsTrue result ↔ IsOpenTicket (past_of self.now) ticket.now }
+        ensures { IsTrue result ↔ IsOpenTicket (past self.now) ticket.now }
     {
         match self.opening(ticket.poll()) {
             Some(opening) => {
@@ -121,18 +86,80 @@ impl Book {
         }
     }
 
+    /// Closes a poll by what the appraisal of its evidence found; the ticket is the one that its begin gave.
+    ///
+    /// # Errors
+    /// `NoPoll` where the poll is not open.
+    pub fn finish_own(&mut self, done: Appraised) -> Result<Closed, (Refusal, Appraised)>
+        requires { IsGiven (past self.old) done.ticket }
+        ensures answer { OwnFinishes done result (past self.old) }
+        ensures history { self.new ≡ with_more (finish_makes done result (past self.old)) self.old }
+    {
+        let poll = done.ticket().poll();
+        if !self.is_open(poll) {
+            return Err((Refusal::NoPoll(poll), done));
+        }
+        Ok(self.close_found(done))
+    }
+
     /// Closes a poll by what the appraisal of its evidence found.
     ///
     /// # Errors
     /// `NoPoll` where the ticket is not the one that the begin of an open poll gave, compared by value.
     pub fn finish(&mut self, done: Appraised) -> Result<Closed, (Refusal, Appraised)>
-        ensures answer { Finishes done result (past_of self.old) }
-        ensures history { self.new ≡ self.old ++ finish_makes done result (past_of self.old) }
+        ensures answer { Finishes done result (past self.old) }
+        ensures history { self.new ≡ with_more (finish_makes done result (past self.old)) self.old }
     {
         if !self.holds(done.ticket()) {
             return Err((Refusal::NoPoll(done.ticket().poll()), done));
         }
-        Ok(self.close_found(done.into_parts()))
+        Ok(self.close_found(done))
+    }
+
+    /// Closes a poll of which no evidence came back; the ticket is the one that its begin gave.
+    ///
+    /// # Errors
+    /// `NoPoll` where the poll is not open.
+    pub fn lose_own(&mut self, ticket: Ticket, why: LostWhy) -> Result<Closed, (Refusal, Ticket)>
+        requires { IsGiven (past self.old) ticket }
+        ensures answer { OwnLoses ticket why result (past self.old) }
+        ensures history { self.new ≡ with_more (lose_makes ticket why result (past self.old)) self.old }
+    {
+        let poll = ticket.poll();
+        if !self.is_open(poll) {
+            return Err((Refusal::NoPoll(poll), ticket));
+        }
+        Ok(self.close(ticket, Close::Lost(why)))
+    }
+
+    /// Closes a poll of which no evidence came back.
+    ///
+    /// # Errors
+    /// `NoPoll` where the ticket is not the one that the begin of an open poll gave, compared by value.
+    pub fn lose(&mut self, ticket: Ticket, why: LostWhy) -> Result<Closed, (Refusal, Ticket)>
+        ensures answer { Loses ticket why result (past self.old) }
+        ensures history { self.new ≡ with_more (lose_makes ticket why result (past self.old)) self.old }
+    {
+        if !self.holds(&ticket) {
+            return Err((Refusal::NoPoll(ticket.poll()), ticket));
+        }
+        Ok(self.close(ticket, Close::Lost(why)))
+    }
+
+    /// Closes a poll without counting it for or against its agent; the ticket is the one that its begin gave.
+    ///
+    /// # Errors
+    /// `NoPoll` where the poll is not open.
+    pub fn drop_own(&mut self, ticket: Ticket, why: DropWhy) -> Result<Closed, (Refusal, Ticket)>
+        requires { IsGiven (past self.old) ticket }
+        ensures answer { OwnDrops ticket why result (past self.old) }
+        ensures history { self.new ≡ with_more (drop_makes ticket why result (past self.old)) self.old }
+    {
+        let poll = ticket.poll();
+        if !self.is_open(poll) {
+            return Err((Refusal::NoPoll(poll), ticket));
+        }
+        Ok(self.close(ticket, Close::Dropped(why)))
     }
 
     /// Closes a poll without counting it for or against its agent.
@@ -140,12 +167,12 @@ impl Book {
     /// # Errors
     /// `NoPoll` where the ticket is not the one that the begin of an open poll gave, compared by value.
     pub fn drop_poll(&mut self, ticket: Ticket, why: DropWhy) -> Result<Closed, (Refusal, Ticket)>
-        ensures answer { Drops ticket why result (past_of self.old) }
-        ensures history { self.new ≡ self.old ++ drop_makes ticket why result (past_of self.old) }
+        ensures answer { Drops ticket why result (past self.old) }
+        ensures history { self.new ≡ with_more (drop_makes ticket why result (past self.old)) self.old }
     {
         if !self.holds(&ticket) {
             return Err((Refusal::NoPoll(ticket.poll()), ticket));
         }
-        Ok(self.close_dropped(ticket, why))
+        Ok(self.close(ticket, Close::Dropped(why)))
     }
 }

@@ -1,7 +1,7 @@
 //! Agents are stopped and removed.
 
-ghost use Rattle.std.specs.Prelude.{◌≡◌, ◌++◌};
-ghost use Rattle.kl_history.specs.Records.{past_of};
+ghost use Rattle.std.specs.Prelude.{◌≡◌};
+ghost use Rattle.kl_core.specs.Books.{past, with_more};
 ghost use Rattle.kl_core.specs.Endings.{Stops, stop_makes, Removes, remove_makes};
 
 use super::Book;
@@ -16,8 +16,8 @@ impl Book {
     /// # Errors
     /// `NoAgent`, `WrongState` where it is not live, `JournalRecords` or `Memory`.
     pub fn stop(&mut self, agent: &AgentId) -> Result<(), Refusal>
-        ensures answer { Stops agent.now result (past_of self.old) }
-        ensures history { self.new ≡ self.old ++ stop_makes agent.now result (past_of self.old) }
+        ensures answer { Stops agent.now result (past self.old) }
+        ensures history { self.new ≡ with_more (stop_makes agent.now result (past self.old)) self.old }
     {
         let entry = self.live_entry(agent)?;
         if !self.has_room(1) {
@@ -37,8 +37,8 @@ impl Book {
     /// # Errors
     /// `NoAgent`, `JournalRecords` or `Memory`.
     pub fn remove(&mut self, agent: &AgentId) -> Result<(), Refusal>
-        ensures answer { Removes agent.now result (past_of self.old) }
-        ensures history { self.new ≡ self.old ++ remove_makes agent.now result (past_of self.old) }
+        ensures answer { Removes agent.now result (past self.old) }
+        ensures history { self.new ≡ with_more (remove_makes agent.now result (past self.old)) self.old }
     {
         if !self.has(agent) {
             return Err(Refusal::NoAgent);

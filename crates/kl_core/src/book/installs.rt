@@ -1,9 +1,9 @@
 //! Agents are installed.
 
-ghost use Rattle.std.specs.Prelude.{◌≡◌, ◌++◌, IfOk, IfErr, IfSome, IfNone, IsSome, Some, length};
+ghost use Rattle.std.specs.Prelude.{◌≡◌, IfOk, IfErr, IfSome, IfNone, IsSome, Some, length};
 ghost use Rattle.std.specs.Option.{option_map};
 ghost use Rattle.kl_history.specs.declared.record.InstallWhy.TheVariants.{Add};
-ghost use Rattle.kl_history.specs.Records.{past_of};
+ghost use Rattle.kl_core.specs.Books.{past, with_more};
 ghost use Rattle.kl_history.specs.Legal.{MayInstall, HasRoom, HasBytes};
 ghost use Rattle.kl_core.specs.Installs.{RefusesAdd, Adds, add_makes, RefusesReactivate, Reactivates, reactivate_makes, with_policy, RefusesReplace, Replaces, replace_makes};
 ghost use Rattle.kl_core.specs.Inner.Keeping.{IsEntry, terms_at};
@@ -21,10 +21,10 @@ use std::alloc::Global;
 impl Book {
     /// Why an agent can't be added, None where it can.
     fn bars_add(&self, agent: &AgentId, terms: &Terms) -> Option<Refusal>
-        ensures some { IfSome result (λ why. RefusesAdd (past_of self.now) agent.now terms.now why) }
-        ensures may { IfNone result (MayInstall (past_of self.now) agent.now terms.now Add) }
-        ensures room { IfNone result (HasRoom (past_of self.now) 1) }
-        ensures bytes { IfNone result (HasBytes (past_of self.now) (length terms.now.policy.source)) }
+        ensures some { IfSome result (λ why. RefusesAdd (past self.now) agent.now terms.now why) }
+        ensures may { IfNone result (MayInstall (past self.now) agent.now terms.now Add) }
+        ensures room { IfNone result (HasRoom (past self.now) 1) }
+        ensures bytes { IfNone result (HasBytes (past self.now) (length terms.now.policy.source)) }
     {
         if self.has(agent) {
             return Some(Refusal::Exists);
@@ -45,8 +45,8 @@ impl Book {
         agent: AgentId,
         terms: Terms,
     ) -> Result<u64, (Refusal, Terms)>
-        ensures answer { Adds agent terms result (past_of self.old) }
-        ensures history { self.new ≡ self.old ++ add_makes agent terms result (past_of self.old) }
+        ensures answer { Adds agent terms result (past self.old) }
+        ensures history { self.new ≡ with_more (add_makes agent terms result (past self.old)) self.old }
     {
         match self.bars_add(&agent, &terms) {
             Some(why) => return Err((why, terms)),
@@ -83,9 +83,9 @@ impl Book {
 
     /// What is kept of an agent that may be installed once more under the terms that it has.
     fn may_reactivate(&self, agent: &AgentId) -> Result<Entry, Refusal>
-        ensures entry { IfOk result (λ e. IsEntry self.now (past_of self.now) agent.now e) }
-        ensures room { IfOk result (λ _. HasRoom (past_of self.now) 1) }
-        ensures err { IfErr result (λ why. RefusesReactivate (past_of self.now) agent.now why) }
+        ensures entry { IfOk result (λ e. IsEntry self.now.history (past self.now) agent.now e) }
+        ensures room { IfOk result (λ _. HasRoom (past self.now) 1) }
+        ensures err { IfErr result (λ why. RefusesReactivate (past self.now) agent.now why) }
     {
         match self.entry(agent) {
             Some(entry) => if self.has_room(1) {
@@ -102,8 +102,8 @@ impl Book {
     /// # Errors
     /// `NoAgent`, `JournalRecords` or `Memory`.
     pub fn reactivate(&mut self, agent: &AgentId) -> Result<u64, Refusal>
-        ensures answer { Reactivates agent.now result (past_of self.old) }
-        ensures history { self.new ≡ self.old ++ reactivate_makes agent.now result (past_of self.old) }
+        ensures answer { Reactivates agent.now result (past self.old) }
+        ensures history { self.new ≡ with_more (reactivate_makes agent.now result (past self.old)) self.old }
     {
         let entry = self.may_reactivate(agent)?;
         let terms = self.share_terms(entry.place)?;
@@ -126,10 +126,10 @@ impl Book {
 
     /// What is kept of an agent whose policy may be replaced.
     fn may_replace(&self, agent: &AgentId, policy: &Policy) -> Result<Entry, Refusal>
-        ensures entry { IfOk result (λ e. IsEntry self.now (past_of self.now) agent.now e) }
-        ensures room { IfOk result (λ _. HasRoom (past_of self.now) 1) }
-        ensures bytes { IfOk result (λ _. HasBytes (past_of self.now) (length policy.now.source)) }
-        ensures err { IfErr result (λ why. RefusesReplace (past_of self.now) agent.now policy.now why) }
+        ensures entry { IfOk result (λ e. IsEntry self.now.history (past self.now) agent.now e) }
+        ensures room { IfOk result (λ _. HasRoom (past self.now) 1) }
+        ensures bytes { IfOk result (λ _. HasBytes (past self.now) (length policy.now.source)) }
+        ensures err { IfErr result (λ why. RefusesReplace (past self.now) agent.now policy.now why) }
     {
         match self.entry(agent) {
             Some(entry) => match self.lacks(1, policy.source().len() as u64) {
@@ -147,8 +147,8 @@ impl Book {
         place: usize,
         policy: Policy,
     ) -> Result<SharedTerms, Policy>
-        requires { IsSome (terms_at self.now place) }
-        ensures ok { IfOk result (λ terms. option_map (with_policy policy) (terms_at self.now place) ≡ Some terms) }
+        requires { IsSome (terms_at self.now.history place) }
+        ensures ok { IfOk result (λ terms. option_map (with_policy policy) (terms_at self.now.history place) ≡ Some terms) }
         ensures err { IfErr result (λ back. back ≡ policy) }
     {
         let terms = self.terms_at(place).terms().with_policy(alloc, policy)?;
@@ -168,8 +168,8 @@ impl Book {
         agent: &AgentId,
         policy: Policy,
     ) -> Result<u64, (Refusal, Policy)>
-        ensures answer { Replaces agent.now policy result (past_of self.old) }
-        ensures history { self.new ≡ self.old ++ replace_makes agent.now policy result (past_of self.old) }
+        ensures answer { Replaces agent.now policy result (past self.old) }
+        ensures history { self.new ≡ with_more (replace_makes agent.now policy result (past self.old)) self.old }
     {
         let entry = match self.may_replace(agent, &policy) {
             Ok(entry) => entry,

@@ -1,10 +1,12 @@
 //! Polls begin and are closed.
 
-ghost use Rattle.std.specs.Prelude.{◌≡◌, ◌++◌, ℕ, true, false, IfOk, IfErr, IfSome, IfNone, Some, None};
-ghost use Rattle.kl_history.specs.Records.{past_of, own, is_open};
+ghost use Rattle.std.specs.Prelude.{◌≡◌, ℕ, true, false, IfOk, IfErr, IfSome, IfNone, Some, None};
+ghost use Rattle.kl_history.specs.Records.{own, is_open};
 ghost use Rattle.kl_history.specs.Legal.{IsBusy, HasRoom, HasBytes};
+ghost use Rattle.kl_core.specs.Books.{past, with_more};
 ghost use Rattle.kl_core.specs.Begins.{RefusesBegin, BeginAnswers, begin_makes};
 ghost use Rattle.kl_core.specs.Inner.Keeping.{IsEntry};
+ghost use Rattle.kl_core.specs.Inner.Steps.{latest_poll};
 
 use super::{Book, POLL_BYTES};
 use crate::agents::note;
@@ -18,24 +20,28 @@ use kl_states::{AgentId, Nonce};
 impl Book {
     /// The last poll of an agent, where it is open.
     fn open_latest(&self, entry: &Entry) -> Option<u64>
-        ensures latest { IfSome result (λ p. entry.now.latest ≡ Some p) }
-        ensures opened { IfSome result (λ p. is_open (past_of self.now) p ≡ true) }
-        ensures none { IfNone result ((p : ℕ) → entry.now.latest ≡ Some p → is_open (past_of self.now) p ≡ false) }
+        ensures latest { IfSome result (λ p. latest_poll entry.now ≡ Some p) }
+        ensures opened { IfSome result (λ p. is_open (past self.now) p ≡ true) }
+        ensures none { IfNone result ((p : ℕ) → latest_poll entry.now ≡ Some p → is_open (past self.now) p ≡ false) }
     {
         match entry.latest {
-            Some(poll) => if self.is_open(poll) { Some(poll) } else { None },
+            Some(begun) => if self.is_open(begun.poll) {
+                Some(begun.poll)
+            } else {
+                None
+            },
             None => None,
         }
     }
 
     /// What is kept of an agent that may be polled.
     fn may_begin(&self, agent: &AgentId) -> Result<Entry, Refusal>
-        ensures entry { IfOk result (λ e. IsEntry self.now (past_of self.now) agent.now e) }
+        ensures entry { IfOk result (λ e. IsEntry self.now.history (past self.now) agent.now e) }
         ensures live { IfOk result (λ e. e.end ≡ None) }
-        ensures idle { IfOk result (λ e. (q : ℕ) → ¬ (IsBusy (past_of self.now) agent.now e.generation q)) }
-        ensures room { IfOk result (λ _. HasRoom (past_of self.now) 2) }
-        ensures bytes { IfOk result (λ _. HasBytes (past_of self.now) 16777216) }
-        ensures err { IfErr result (λ why. RefusesBegin (past_of self.now) agent.now why) }
+        ensures idle { IfOk result (λ e. (q : ℕ) → ¬ (IsBusy (past self.now) agent.now e.generation q)) }
+        ensures room { IfOk result (λ _. HasRoom (past self.now) 2) }
+        ensures bytes { IfOk result (λ _. HasBytes (past self.now) 16777216) }
+        ensures err { IfErr result (λ why. RefusesBegin (past self.now) agent.now why) }
     {
         let entry = self.live_entry(agent)?;
         match self.open_latest(&entry) {
@@ -54,12 +60,16 @@ impl Book {
     /// `NoAgent`, `WrongState` where it is not live, `Busy` where a poll of its installed generation is open,
     /// `JournalRecords`, `JournalBytes` or `Memory`.
     pub fn begin(&mut self, agent: &AgentId, nonce: Nonce, now: u64) -> Result<Ticket, Refusal>
-        ensures answer { BeginAnswers agent.now nonce now result (past_of self.old) }
-        ensures history { self.new ≡ self.old ++ begin_makes now result (past_of self.old) }
+        ensures answer { BeginAnswers agent.now nonce now result (past self.old) }
+        ensures history { self.new ≡ with_more (begin_makes now result (past self.old)) self.old }
     {
         let entry = self.may_begin(agent)?;
         let terms = self.share_terms(entry.place)?;
         match self.records.reserve(self.polls.len() + 2) {
+            Ok(()) => {},
+            Err(_) => return Err(Refusal::Memory),
+        }
+        match self.outbox.reserve(self.polls.len() + 1) {
             Ok(()) => {},
             Err(_) => return Err(Refusal::Memory),
         }
@@ -75,7 +85,7 @@ impl Book {
             Err(_) => return Err(Refusal::Memory),
         }
         self.begun = poll;
-        note(&mut self.agents, agent, entry.polled(poll));
+        note(&mut self.agents, agent, entry.polled(poll, now));
         self.records.push_reserved(Record::Begin {
             poll,
             agent: *agent,

@@ -1,6 +1,7 @@
 -- Why no terms were made.
 use Rattle.std.specs.Prelude.{◌≡◌, List, ℕ}
 use Rattle.kl_exclude.specs.Told.{MakerTold}
+use Rattle.kl_history.specs.Records.{History}
 use Rattle.kl_script.specs.declared.command.Add.{Add}
 use Rattle.kl_states.specs.declared.policy_kind.PolicyKind.{PolicyKind}
 use Rattle.kl_session.specs.Outside.{Outside, LeavesRest}
@@ -18,9 +19,9 @@ pub record Tells (o o' : Outside) (before after : MakerTold) : Type 0 where
 
 abbrev pub IsPolicyFault : Outside → Outside → PolicyKind → List ℕ → NamingFault → Type 0
 IsPolicyFault o o' kind text (fault.None (Policy why)) = Refuses o o' kind text why
-IsPolicyFault o o' kind text fault.Memory = MadeSome o o'
+IsPolicyFault o o' kind text fault.Memory = MadeSome o o' kind
 IsPolicyFault o o' kind text _ = ⊥
 
-abbrev pub IsTermsFault : Outside → Outside → Add → NamingFault → Type 0
-IsTermsFault o o' a (fault.None why) = NamesNoTerms o o' a why
-IsTermsFault o o' a fault.Memory = MadeSome o o'
+abbrev pub IsTermsFault : Outside → Outside → History → Add → NamingFault → Type 0
+IsTermsFault o o' H a (fault.None why) = NamesNoTerms o o' H a why
+IsTermsFault o o' H a fault.Memory = MadeSome o o' a.kind

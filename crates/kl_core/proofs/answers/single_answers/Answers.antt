@@ -1,5 +1,5 @@
 use Rattle.kl_core.proofs.OneAnswer.{one_add, one_replace, one_reactivate, one_stop, one_remove}
-use Rattle.kl_core.proofs.OneAnswer.{one_begin, one_own_finish, one_finish, one_own_drop, one_drop, one_state}
+use Rattle.kl_core.proofs.OneAnswer.{one_begin, one_own_finish, one_finish, one_own_loss, one_loss, one_own_drop, one_drop, one_state, one_pick, one_notice, one_mark}
 use Rattle.kl_core.proofs.answers.single_answers.Goals as goal
 
 pub returns : goal.returns
@@ -12,7 +12,12 @@ returns c = record {
   begins = one_begin;
   finishes = one_finish;
   own_finishes = one_own_finish;
+  loses = one_loss;
+  own_loses = one_own_loss;
   drops = one_drop;
   own_drops = one_own_drop;
   state = one_state;
+  picks = one_pick;
+  notices = one_notice;
+  marks = one_mark;
 }

@@ -1,10 +1,7 @@
-use Rattle.std.proofs.Common.{rules, ◌≡◌, true, false, [], ◌∷◌, reverse, ap, sym, ◌∙◌, subst}
-use Rattle.std.proofs.lemmas.List.Elements.{All-head}
-use Rattle.std.proofs.lemmas.List.{reverse-reverse, append-nil}
+use Rattle.std.proofs.Common.{rules, ◌≡◌, [], reverse, sym, subst}
 use Rattle.kl_history.specs.Legal.{Legal}
-use Rattle.kl_history.specs.Records.{past_of}
-use Rattle.kl_core.specs.Tickets.{IsOpenTicket}
-use Rattle.kl_session.proofs.Opened.{Dropping, next_dropped, drop_none, drop_more, dropped_all, head_opened}
+use Rattle.kl_core.specs.Books.{BookFields}
+use Rattle.kl_session.proofs.Opened.{Dropping, next_dropped, drop_more, dropped_all, head_opened}
 use Rattle.kl_session.proofs.closing.drop_all.Goals as goal
 
 pub drop_own-requires : goal.drop_own-requires
@@ -21,9 +18,9 @@ unreachable-requires c =
 
 pub loop-ticket-preserved : goal.loop-ticket-preserved
 loop-ticket-preserved c =
-    subst (λ H. Dropping c.args.book.now H c.args.tickets.items (reverse c.pop.new.self.items)) (sym c.in-Ok.ensures.history)
+    subst (λ b. Dropping c.args.book.now b c.args.tickets.items (reverse c.pop.new.self.items)) (sym c.in-Ok.ensures.history)
     (drop_more c.args.book.now c.loop-ticket.book c.args.tickets.items (reverse c.pop.new.self.items) c.in-Some.ticket
-    (subst Legal c.in-Ok.ensures.history c.len-len.ensures.legal)
+    (subst (λ (b : BookFields). Legal b.history) c.in-Ok.ensures.history c.len-len.ensures.legal)
     (next_dropped c.args.book.now c.loop-ticket.book c.args.tickets.items c.loop-ticket.tickets.items c.pop.new.self.items c.in-Some.ticket c.in-Some.ensures.items c.loop-ticket.invariant))
 
 pub returns : goal.returns

@@ -12,4 +12,4 @@ returns-in-Err-Static-clause-fault g c = λ o o' tells.
     ((c.in-Ok.policy, c.in-Ok.ensures.policy, c.in-Ok.ensures.reads o o' tells), c.in-Err-Static.ensures.statics_mask (ap Err c.in-Err-Static.field-0-is), none)
 
 pub returns-in-Err-clause-fault : goal.returns-in-Err-clause-fault
-returns-in-Err-clause-fault g c = λ o o' tells. policy_in_terms o o' c.args.add c.in-Err.fault (c.in-Err.ensures.fault o o' tells)
+returns-in-Err-clause-fault g c = λ o o' tells. policy_in_terms o o' c.args.book.now.history c.args.add c.in-Err.fault (c.in-Err.ensures.fault o o' tells)

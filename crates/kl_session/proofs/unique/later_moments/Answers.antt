@@ -1,4 +1,5 @@
-use Rattle.kl_session.proofs.GoingOn.{and_on, does_on, follows_on, dry_on, does_grow, follows_grow, lacked_before}
+use Rattle.kl_session.proofs.Moments.{and_on}
+use Rattle.kl_session.proofs.GoingOn.{does_on, follows_on, dry_on, does_grow, follows_grow, lacked_before}
 use Rattle.kl_session.proofs.OneStep.{front_faultless, rest_faultless}
 use Rattle.kl_session.proofs.unique.later_moments.Goals as goal
 

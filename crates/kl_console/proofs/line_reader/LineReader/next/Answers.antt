@@ -6,4 +6,5 @@ pub returns-clause-reads : goal.returns-clause-reads
 returns-clause-reads g c =
     let primed = rw (ap (λ r. r.ahead) c.self.view_is) at c.prime.ensures.bytes in
     let passed = c.prime.ensures.passed ∙ ap (λ r. r.passed) c.self.view_is in
-    reads_primed _ _ _ c.args.self.now c.prime.new.self _ _ primed passed c.gather.ensures.reads
+    let reads = rw (ap (λ r. r.ahead) c.self.view_is) at (c.in_ok-prime.ensures.reads c.if-not-branch.false) in
+    reads_primed _ _ _ c.args.self.now c.prime.new.self _ _ primed reads passed c.gather.ensures.reads

@@ -7,4 +7,4 @@ pub returns-in-Some : goal.returns-in-Some
 returns-in-Some c =
     let b = c.self.inside in
     rw (← c.self.view_is)
-    (entry_at b.records.items (past_of b.records.items) c.args.agent.now _ c.in-Some.entry.now (c.self.invariant.agents_are c.args.agent.now) (search rules))
+    (entry_at b.records.items (past_of b.records.items) c.args.agent.now _ c.in-Some.entry.now (c.self.invariant.0.agents_are c.args.agent.now) (search rules))

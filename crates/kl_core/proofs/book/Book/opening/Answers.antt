@@ -7,4 +7,4 @@ pub returns-in-Some : goal.returns-in-Some
 returns-in-Some c =
     let b = c.self.inside in
     rw (← c.self.view_is)
-    (opening_at b.records.items (past_of b.records.items) c.args.poll _ c.in-Some.opening.now (c.self.invariant.polls_are c.args.poll) (search rules))
+    (opening_at b.records.items (past_of b.records.items) c.args.poll _ c.in-Some.opening.now (c.self.invariant.0.polls_are c.args.poll) (search rules))

@@ -1,156 +1,43 @@
-use Rattle.std.proofs.Common.{◌≡◌, inl, refl}
+use Rattle.std.proofs.Common.{refl, string_bytes}
 use Rattle.std.proofs.lemmas.Result.{IfOk-weaker, IfErr-weaker}
-use Rattle.kl_script.specs.Commands.{add, replace, reactivate, stop, remove, now, reply_fields}
+use Rattle.kl_script.specs.Commands.{verifier_fields}
 use Rattle.kl_session.specs.Outside.{outside}
-use Rattle.kl_session.specs.Installs.{DoesAdd, DoesReplace, DoesReactivate}
-use Rattle.kl_session.specs.Endings.{DoesStop, DoesRemove}
-use Rattle.kl_session.specs.Texts.{now_line}
 use Rattle.kl_session.specs.Session.{Does}
-use Rattle.kl_session.specs.declared.stop.Stop.TheVariants.{Memory}
-use Rattle.kl_session.specs.Inner.Stopping.{IsShort}
-use Rattle.kl_session.specs.Inner.Naming.{Tells}
-use Rattle.kl_session.proofs.Readings.{told_so}
-use Rattle.kl_session.proofs.Obeying.{alone, unread, unbegun, unanswered}
+use Rattle.kl_session.proofs.Standing.{kept_by, by_verifier, verifier_stopped, by_registrar, registrar_stopped}
 use Rattle.kl_session.proofs.session.Session.obey.Goals as goal
 
 pub returns-in-Nothing-clause-done : goal.returns-in-Nothing-clause-done
 unfolding Does
-returns-in-Nothing-clause-done g c = rw c.in-Nothing.is (refl, refl, c.new.ensures.bytes)
+returns-in-Nothing-clause-done g c = rw c.in-Nothing.is (λ s stands. (s, stands, (refl, refl, c.new.ensures.bytes)))
 
-pub returns-in-Add-clause-done : goal.returns-in-Add-clause-done
-unfolding Does
-returns-in-Add-clause-done g c =
-    let keys = g.Y.Keys.told c.args.keys.now in
-    let words = g.N.Words.told c.args.nonces.now in
-    let made = g.P.PatternMaker.told in
-    let o = outside keys words (made c.args.patterns.now) c.args.steps.now in
-    let o' = outside keys words (made c.add.new.patterns) c.args.steps.now in
-    let tells : Tells o o' (made c.args.patterns.now) (made c.add.new.patterns) = told_so keys words (made c.args.patterns.now) (made c.add.new.patterns) c.args.steps.now in
-    rw c.in-Add.is (IfOk-weaker c.add.result _ _ (λ line did. did o o' tells) c.add.ensures.done)
+pub returns-in-Verifier-clause-done : goal.returns-in-Verifier-clause-done
+returns-in-Verifier-clause-done g c =
+    let o = outside (g.Y.Keys.told c.args.keys.now) (g.N.Words.told c.args.words.now) (g.P.PatternMaker.told c.args.patterns.now) c.args.steps.now in
+    let o' = outside (g.Y.Keys.told c.obey.new.keys) (g.N.Words.told c.obey.new.nonces) (g.P.PatternMaker.told c.obey.new.patterns) c.obey.new.steps in
+    let k = kept_by c.self.inside.verifier c.self.inside.registrar in
+    rw (c.in-Verifier.is, ← c.self.view_is) (IfOk-weaker c.obey.result _ _ (λ line does s stands. by_verifier o o' k c.obey.new.self (verifier_fields c.in-Verifier.command) (string_bytes line) s stands does) c.obey.ensures.done)
 
-pub returns-in-Add-clause-stopped : goal.returns-in-Add-clause-stopped
-unfolding Does
-returns-in-Add-clause-stopped g c =
-    let keys = g.Y.Keys.told c.args.keys.now in
-    let words = g.N.Words.told c.args.nonces.now in
-    let made = g.P.PatternMaker.told in
-    let o = outside keys words (made c.args.patterns.now) c.args.steps.now in
-    let o' = outside keys words (made c.add.new.patterns) c.args.steps.now in
-    let tells : Tells o o' (made c.args.patterns.now) (made c.add.new.patterns) = told_so keys words (made c.args.patterns.now) (made c.add.new.patterns) c.args.steps.now in
-    let s = c.args.self.now in
-    let s' = c.add.new.self in
-    let said = c.in-Add.add in
-    rw c.in-Add.is
-    (unread c.add.result o o' s s' (add said) (DoesAdd o o' said s s') (λ line did. did) (λ some. some)
-    (IfErr-weaker c.add.result _ _ (λ stop short. short o o' tells) c.add.ensures.short))
+pub returns-in-Verifier-clause-stopped : goal.returns-in-Verifier-clause-stopped
+returns-in-Verifier-clause-stopped g c =
+    let o = outside (g.Y.Keys.told c.args.keys.now) (g.N.Words.told c.args.words.now) (g.P.PatternMaker.told c.args.patterns.now) c.args.steps.now in
+    let o' = outside (g.Y.Keys.told c.obey.new.keys) (g.N.Words.told c.obey.new.nonces) (g.P.PatternMaker.told c.obey.new.patterns) c.obey.new.steps in
+    let k = kept_by c.self.inside.verifier c.self.inside.registrar in
+    rw (c.in-Verifier.is, ← c.self.view_is) (IfErr-weaker c.obey.result _ _ (λ why stopped s stands. verifier_stopped why o o' k c.obey.new.self (verifier_fields c.in-Verifier.command) s stands stopped) c.obey.ensures.stopped)
 
-pub returns-in-Replace-clause-done : goal.returns-in-Replace-clause-done
-unfolding Does
-returns-in-Replace-clause-done g c =
-    let keys = g.Y.Keys.told c.args.keys.now in
-    let words = g.N.Words.told c.args.nonces.now in
-    let made = g.P.PatternMaker.told in
-    let o = outside keys words (made c.args.patterns.now) c.args.steps.now in
-    let o' = outside keys words (made c.replace.new.patterns) c.args.steps.now in
-    let tells : Tells o o' (made c.args.patterns.now) (made c.replace.new.patterns) = told_so keys words (made c.args.patterns.now) (made c.replace.new.patterns) c.args.steps.now in
-    rw c.in-Replace.is (IfOk-weaker c.replace.result _ _ (λ line did. did o o' tells) c.replace.ensures.done)
-
-pub returns-in-Replace-clause-stopped : goal.returns-in-Replace-clause-stopped
-unfolding Does
-returns-in-Replace-clause-stopped g c =
-    let keys = g.Y.Keys.told c.args.keys.now in
-    let words = g.N.Words.told c.args.nonces.now in
-    let made = g.P.PatternMaker.told in
-    let o = outside keys words (made c.args.patterns.now) c.args.steps.now in
-    let o' = outside keys words (made c.replace.new.patterns) c.args.steps.now in
-    let tells : Tells o o' (made c.args.patterns.now) (made c.replace.new.patterns) = told_so keys words (made c.args.patterns.now) (made c.replace.new.patterns) c.args.steps.now in
-    let s = c.args.self.now in
-    let s' = c.replace.new.self in
-    let said = c.in-Replace.replace in
-    rw c.in-Replace.is
-    (unread c.replace.result o o' s s' (replace said) (DoesReplace o o' said s s') (λ line did. did) (λ some. some)
-    (IfErr-weaker c.replace.result _ _ (λ stop short. short o o' tells) c.replace.ensures.short))
-
-pub returns-in-Reactivate-clause-done : goal.returns-in-Reactivate-clause-done
-unfolding Does
-returns-in-Reactivate-clause-done g c = rw c.in-Reactivate.is (IfOk-weaker c.reactivate.result _ _ (λ line did. (refl, did)) c.reactivate.ensures.done)
-
-pub returns-in-Reactivate-clause-stopped : goal.returns-in-Reactivate-clause-stopped
-unfolding Does
-returns-in-Reactivate-clause-stopped g c =
-    let o = outside (g.Y.Keys.told c.args.keys.now) (g.N.Words.told c.args.nonces.now) (g.P.PatternMaker.told c.args.patterns.now) c.args.steps.now in
-    let s = c.args.self.now in
-    let s' = c.reactivate.new.self in
-    let said = c.in-Reactivate.agent in
-    rw c.in-Reactivate.is (alone c.reactivate.result o s s' (reactivate said) (DoesReactivate said s s') (λ line did. (refl, did)) c.reactivate.ensures.short)
-
-pub returns-in-Stop-clause-done : goal.returns-in-Stop-clause-done
-unfolding Does
-returns-in-Stop-clause-done g c = rw c.in-Stop.is (IfOk-weaker c.stop.result _ _ (λ line did. (refl, did)) c.stop.ensures.done)
-
-pub returns-in-Stop-clause-stopped : goal.returns-in-Stop-clause-stopped
-unfolding Does
-returns-in-Stop-clause-stopped g c =
-    let o = outside (g.Y.Keys.told c.args.keys.now) (g.N.Words.told c.args.nonces.now) (g.P.PatternMaker.told c.args.patterns.now) c.args.steps.now in
-    let s = c.args.self.now in
-    let s' = c.stop.new.self in
-    let said = c.in-Stop.agent in
-    rw c.in-Stop.is (alone c.stop.result o s s' (stop said) (DoesStop said s s') (λ line did. (refl, did)) c.stop.ensures.short)
-
-pub returns-in-Remove-clause-done : goal.returns-in-Remove-clause-done
-unfolding Does
-returns-in-Remove-clause-done g c = rw c.in-Remove.is (IfOk-weaker c.remove.result _ _ (λ line did. (refl, did)) c.remove.ensures.done)
-
-pub returns-in-Remove-clause-stopped : goal.returns-in-Remove-clause-stopped
-unfolding Does
-returns-in-Remove-clause-stopped g c =
-    let o = outside (g.Y.Keys.told c.args.keys.now) (g.N.Words.told c.args.nonces.now) (g.P.PatternMaker.told c.args.patterns.now) c.args.steps.now in
-    let s = c.args.self.now in
-    let s' = c.remove.new.self in
-    let said = c.in-Remove.agent in
-    rw c.in-Remove.is (alone c.remove.result o s s' (remove said) (DoesRemove said s s') (λ line did. (refl, did)) c.remove.ensures.short)
-
-pub returns-in-Now-clause-done : goal.returns-in-Now-clause-done
-unfolding Does
-returns-in-Now-clause-done g c = rw c.in-Now.is (IfOk-weaker c.set_now.result _ _ (λ line said. (refl, c.set_now.ensures.set, said)) c.set_now.ensures.line)
-
-pub returns-in-Now-clause-stopped : goal.returns-in-Now-clause-stopped
-unfolding Does
-returns-in-Now-clause-stopped g c =
-    let o = outside (g.Y.Keys.told c.args.keys.now) (g.N.Words.told c.args.nonces.now) (g.P.PatternMaker.told c.args.patterns.now) c.args.steps.now in
-    let s = c.args.self.now in
-    let s' = c.set_now.new.self in
-    let said = c.in-Now.moment in
-    rw c.in-Now.is
-    (alone c.set_now.result o s s' (now said) (λ line. line ≡ now_line said) (λ line is. (refl, c.set_now.ensures.set, is))
-    (IfErr-weaker c.set_now.result (λ stop. stop ≡ Memory) (λ stop. IsShort stop s s' (λ line. line ≡ now_line said)) (λ stop e. (e, inl (now_line said, refl))) c.set_now.ensures.short))
-
-pub returns-in-Begin-clause-done : goal.returns-in-Begin-clause-done
-unfolding Does
-returns-in-Begin-clause-done g c = rw c.in-Begin.is (IfOk-weaker c.begin.result _ _ (λ line did. did (g.Y.Keys.told c.args.keys.now) (g.P.PatternMaker.told c.args.patterns.now) c.args.steps.now) c.begin.ensures.done)
-
-pub returns-in-Begin-clause-stopped : goal.returns-in-Begin-clause-stopped
-returns-in-Begin-clause-stopped g c =
-    let keys = g.Y.Keys.told c.args.keys.now in
+pub returns-in-Registrar-clause-done : goal.returns-in-Registrar-clause-done
+returns-in-Registrar-clause-done g c =
+    let made = g.P.PatternMaker.told c.args.patterns.now in
     let n = c.args.steps.now in
+    let o = outside (g.Y.Keys.told c.args.keys.now) (g.N.Words.told c.args.words.now) made n in
+    let o' = outside (g.Y.Keys.told c.obey_registrar.new.keys) (g.N.Words.told c.obey_registrar.new.words) made n in
+    let k = kept_by c.self.inside.verifier c.self.inside.registrar in
+    rw (c.in-Registrar.is, ← c.self.view_is) (IfOk-weaker c.obey_registrar.result _ _ (λ line does s stands. by_registrar o o' k c.obey_registrar.new.registrar c.in-Registrar.command (string_bytes line) s stands (does made n)) c.obey_registrar.ensures.done)
+
+pub returns-in-Registrar-clause-stopped : goal.returns-in-Registrar-clause-stopped
+returns-in-Registrar-clause-stopped g c =
     let made = g.P.PatternMaker.told c.args.patterns.now in
-    rw c.in-Begin.is
-    (IfErr-weaker c.begin.result _ _
-    (λ why short. unbegun why (outside keys (g.N.Words.told c.args.nonces.now) made n) (outside keys (g.N.Words.told c.begin.new.nonces) made n) c.args.self.now c.begin.new.self c.in-Begin.begin (short keys made n))
-    c.begin.ensures.stopped)
-
-pub returns-in-Reply-clause-done : goal.returns-in-Reply-clause-done
-unfolding Does
-returns-in-Reply-clause-done g c = rw c.in-Reply.is (IfOk-weaker c.reply.result _ _ (λ line did. did (g.N.Words.told c.args.nonces.now) (g.P.PatternMaker.told c.args.patterns.now)) c.reply.ensures.done)
-
-pub returns-in-Reply-clause-stopped : goal.returns-in-Reply-clause-stopped
-returns-in-Reply-clause-stopped g c =
-    let words = g.N.Words.told c.args.nonces.now in
-    let made = g.P.PatternMaker.told c.args.patterns.now in
-    rw c.in-Reply.is
-    (unanswered c.reply.result (outside (g.Y.Keys.told c.args.keys.now) words made c.args.steps.now) (outside (g.Y.Keys.told c.reply.new.keys) words made c.reply.new.steps)
-    c.args.self.now c.reply.new.self (reply_fields c.in-Reply.reply) (IfErr-weaker c.reply.result _ _ (λ why short. short words made) c.reply.ensures.short))
-
-pub returns-in-State-clause-done : goal.returns-in-State-clause-done
-unfolding Does
-returns-in-State-clause-done g c = rw c.in-State.is (IfOk-weaker c.state.result _ _ (λ line said. (refl, refl, said)) c.state.ensures.says)
+    let n = c.args.steps.now in
+    let o = outside (g.Y.Keys.told c.args.keys.now) (g.N.Words.told c.args.words.now) made n in
+    let o' = outside (g.Y.Keys.told c.obey_registrar.new.keys) (g.N.Words.told c.obey_registrar.new.words) made n in
+    let k = kept_by c.self.inside.verifier c.self.inside.registrar in
+    rw (c.in-Registrar.is, ← c.self.view_is) (IfErr-weaker c.obey_registrar.result _ _ (λ why stopped s stands. registrar_stopped why o o' k c.obey_registrar.new.registrar c.in-Registrar.command s stands (stopped made n)) c.obey_registrar.ensures.stopped)

@@ -1,4 +1,4 @@
-"""What a worked example is, and the lists that appraisal_cases.py, session_cases.py and policy_cases.py add theirs to."""
+"""What a worked example is, and the lists that the files of cases add theirs to."""
 from dataclasses import dataclass
 
 import evidence as ev

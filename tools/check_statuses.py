@@ -75,12 +75,31 @@ def wrong_statuses(program):
 
 
 def wrong_nonces(program):
-    """Two drawn nonces must be 32 lower-case digits each, and not the same."""
+    """Two runs that draw two nonces each must draw four that differ, of 32 lower-case digits."""
     agents = b"".join(ev.add_line("", agent=agent).encode() for agent in ("a1", "b1"))
-    status, said, _ = run(program, ["run"], script=agents + b"begin a1\nbegin b1\n")
-    nonces = re.findall(rb"^poll \d [ab]1 generation \d nonce ([0-9a-f]{32}) from 0$", said, re.M)
-    if status != 0 or len(set(nonces)) != 2:
-        yield f"drawn nonces: status {status}, printed {said!r}"
+    drawn = set()
+    for _ in range(2):
+        status, said, _ = run(program, ["run"], script=agents + b"begin a1\nbegin b1\n")
+        nonces = re.findall(rb"^poll \d [ab]1 generation \d nonce ([0-9a-f]{32}) from 0$", said, re.M)
+        if status != 0 or len(nonces) != 2:
+            yield f"drawn nonces: status {status}, printed {said!r}"
+        drawn.update(nonces)
+    if len(drawn) != 4:
+        yield f"of four drawn nonces {len(drawn)} differ"
+
+
+def wrong_registers(program):
+    """A registrar takes 1,024 agents, and goes on to take those that it has; no two blobs are alike."""
+    agents = [f"r{n}" for n in range(1024)] + ["z", "r0", "r1023"]
+    script = "".join(f"register {agent} 6531 6b31 h:9002\n" for agent in agents) + "records\n"
+    status, said, _ = run(program, ["run"], script=script.encode())
+    lines = said.decode().splitlines()
+    blobs = [line for line in lines if re.fullmatch(r"blob r\d+ [A-Za-z0-9+/]{86}==", line)]
+    named = [line.split()[1] for line in blobs]
+    if status != 0 or named != agents[:1024] + agents[1025:] or len({line.split()[2] for line in blobs}) != 1026:
+        yield f"1,026 registers: status {status}, {len(blobs)} blobs"
+    if lines[1024:1025] != ["refused full"] or lines[-1:] != ["records 0"]:
+        yield f"a full registrar: printed {lines[1024:1025]}, and {lines[-1:]} at the end"
 
 
 def unlike_statuses(program):
@@ -97,7 +116,7 @@ def main():
         print(__doc__, file=sys.stderr)
         return 2
     program = pathlib.Path(sys.argv[1]).resolve()
-    faults = [*wrong_statuses(program), *wrong_nonces(program), *unlike_statuses(program)]
+    faults = [*wrong_statuses(program), *wrong_nonces(program), *wrong_registers(program), *unlike_statuses(program)]
     for fault in faults:
         print(fault)
     return 1 if faults else 0

@@ -6,14 +6,16 @@
     tools/make_cases.py --run P    runs each whose keys meet no fault and whose nonces are given through the program P, the long
                                    ones too, which are stored nowhere
 
-The cases are those of appraisal_cases.py, session_cases.py and policy_cases.py.
+The cases are those of appraisal_cases.py, session_cases.py, desk_cases.py, policy_cases.py and registrar_cases.py.
 """
 import pathlib
 import subprocess
 import sys
 
 import appraisal_cases  # noqa: F401
+import desk_cases  # noqa: F401
 import policy_cases  # noqa: F401
+import registrar_cases  # noqa: F401
 import session_cases  # noqa: F401
 from cases import CASES, LONG
 

@@ -29,7 +29,9 @@ A line of a script is a command, or is empty or begins with # and prints nothing
   replace <agent> <kind> <policy>   reactivate <agent>
   stop <agent>                      remove <agent>
   begin <agent> [<nonce>]           reply <poll> <bank> <start> <public> <quote> <list>
-  state <agent>                     now <milliseconds>
+  lose <poll>                       state <agent>
+  now <milliseconds>                pick
+  notice                            noticed <number>
   register <agent> <ek> <ak> <contact>
   activate <agent> <tag>            record <agent>
   records                           forget <agent>

@@ -63,7 +63,7 @@ drawn_of (Settled n o c ∷ past) legal = drawn_quiet past (Settled n o c) (quie
 drawn_of (Stop a ∷ past) legal = drawn_quiet past (Stop a) (quiet_stop past a) (drawn_of past legal.0)
 drawn_of (Remove a ∷ past) legal = drawn_quiet past (Remove a) (quiet_remove past a) (drawn_of past legal.0)
 
-calm_of : (past : Past) (r : Record) → IsLegalPast past → Row past r → Calm past r
+pub calm_of : (past : Past) (r : Record) → IsLegalPast past → Row past r → Calm past r
 calm_of past (Install a g t w) legal row = calm_install past a g t w (drawn_of past legal).named row.0
 calm_of past (Begin p a g n at from) legal row = calm_begin past p a g n at from (drawn_of past legal).begun row.0
 calm_of past (Verdict p e s v c) legal row = (quiet_verdict past p e s v c).calm

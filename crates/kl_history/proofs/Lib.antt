@@ -5,6 +5,7 @@ pub mod Drawn
 pub mod OwnRecords
 pub mod Appraised
 pub mod Released
+pub mod ReleasedOnce
 pub mod Standing
 pub mod Failing
 pub mod OneStanding

@@ -67,7 +67,7 @@ own_at x rest (r ∷ past) a s = by_case (belongs past a r) refl s (own_at x res
   ]
   by_case false is t further = let found = further t in (found.0, earlier found.1, found.2, found.3)
 
-own_in : {x : Record} {b past : Past} (a : List ℕ) → Stands x b past → belongs b a x ≡ true → Stands x (own b a) (own past a)
+pub own_in : {x : Record} {b past : Past} (a : List ℕ) → Stands x b past → belongs b a x ≡ true → Stands x (own b a) (own past a)
 own_in {x} {b} a here is = subst (λ o. Stands x (own b a) o) (sym (own-yes x b a is)) here
 own_in {x} {b} a (earlier {newer = r} {past = past} s) is =
     let inside = own_in a s is in

@@ -38,14 +38,14 @@ finding (Remove a) own pass i found inst = absurd (none-some i inst)
 finding _ own pass i found inst = leaves refl found inst
 
 -- where the last pass of an agent stands, with nothing behind it that decides anew
-record PassStands (past : Past) (a : List ℕ) (pass : Passing) (i : Installed) : Type 0 where
-  signed : Bool
-  cut : ℕ
-  behind : Past
-  stands : Stands (Verdict pass.poll pass.evidence signed (Pass cut) true) behind past
-  own_one : belongs behind a (Verdict pass.poll pass.evidence signed (Pass cut) true) ≡ true
-  installed_then : installed (own behind a) ≡ Some i
-  last : (q : Record) (c : Past) → Stands q c past → length behind < length c → belongs c a q ≡ true → decides_anew q ≡ false
+pub record PassStands (past : Past) (a : List ℕ) (pass : Passing) (i : Installed) : Type 0 where
+  pub signed : Bool
+  pub cut : ℕ
+  pub behind : Past
+  pub stands : Stands (Verdict pass.poll pass.evidence signed (Pass cut) true) behind past
+  pub own_one : belongs behind a (Verdict pass.poll pass.evidence signed (Pass cut) true) ≡ true
+  pub installed_then : installed (own behind a) ≡ Some i
+  pub last : (q : Record) (c : Past) → Stands q c past → length behind < length c → belongs c a q ≡ true → decides_anew q ≡ false
 
 pass_before : (r : Record) (past : Past) (a : List ℕ) (pass : Passing) (i : Installed) → (belongs past a r ≡ true → decides_anew r ≡ false) → PassStands past a pass i → PassStands (r ∷ past) a pass i
 pass_before r past a pass i no_finding rest = record {
@@ -61,7 +61,7 @@ pass_before r past a pass i no_finding rest = record {
   ];
 }
 
-pass_stands : (past : Past) (a : List ℕ) (pass : Passing) (i : Installed) → last_pass (own past a) ≡ Some pass → installed (own past a) ≡ Some i → PassStands past a pass i
+pub pass_stands : (past : Past) (a : List ℕ) (pass : Passing) (i : Installed) → last_pass (own past a) ≡ Some pass → installed (own past a) ≡ Some i → PassStands past a pass i
 pass_stands [] a pass i found inst = absurd (none-some pass found)
 pass_stands (r ∷ past) a pass i found inst = by_case (belongs past a r) refl found inst (pass_stands past a pass i) where
   by_case : (t : Bool) → belongs past a r ≡ t → last_pass (cond t (r ∷ own past a) (own past a)) ≡ Some pass → installed (cond t (r ∷ own past a) (own past a)) ≡ Some i

@@ -5,6 +5,7 @@ use Rattle.kl_entry.specs.Entries.{EntryFields}
 use Rattle.kl_quote.specs.declared.evidence.Evidence.{Evidence}
 use Rattle.kl_states.specs.declared.op.Op.{Op}
 use Rattle.kl_notice.specs.declared.notice.Notice.{Notice}
+use Rattle.kl_states.specs.declared.outcome.Outcome.{Outcome as Delivery}
 use Rattle.kl_states.specs.declared.outcome.Outcome.TheVariants as outcome
 use Rattle.kl_states.specs.declared.verdict.Verdict.{Verdict as AnyVerdict}
 use Rattle.kl_states.specs.declared.verdict.Verdict.TheVariants.{Pass}
@@ -17,6 +18,7 @@ use Rattle.kl_appraise.specs.declared.judged.Outcome.TheVariants.{Verdict as Jud
 use Rattle.kl_appraise.specs.declared.judged.Outcome.TheVariants as rules
 use Rattle.kl_appraise.specs.Outcome.{IsOutcome}
 use Rattle.kl_history.specs.declared.record.InstallWhy.{InstallWhy}
+use Rattle.kl_history.specs.declared.record.InstallWhy.TheVariants.{Add}
 use Rattle.kl_history.specs.declared.record.Record.{Record}
 use Rattle.kl_history.specs.declared.record.Record.TheVariants.{Install, Begin, Verdict, Restart, Lost, Dropped, Release, Settled, Remove}
 use Rattle.kl_history.specs.Records.{History, Past, past_of, is_open, is_unsettled, open_polls, open_releases, closes, settles, is_begin, is_release_of, belongs, own, generations, polls, handings}
@@ -135,6 +137,31 @@ pub record IsPassed (H : History) (i : ℕ) (a : List ℕ) (g p : ℕ) : Type 0 
 
 abbrev pub AreReleasedOnPasses : History → Type 0
 AreReleasedOnPasses H = (i n : ℕ) (a : List ℕ) (g p : ℕ) → StandsAt H i (Release n a g p) → IsPassed H i a g p
+
+-- no record between these two places adds the agent
+abbrev pub IsNotAdded : History → List ℕ → ℕ → ℕ → Type 0
+IsNotAdded H a j i = (k g : ℕ) (t : TermsFields) → j < k → k < i → ¬ (StandsAt H k (Install a g t Add))
+
+-- the poll passed, at some place, by a quote that signs this boot
+abbrev pub PassesUnder : History → ℕ → Boot → Type 0
+PassesUnder H p boot =
+    (k : ℕ) × (e : Evidence) × (s : Bool) × (cut : ℕ) × (c : Bool) × StandsAt H k (Verdict p e s (Pass cut) c) × SignsBoot e boot
+
+-- Release m, at place j and for poll q, is over at place i, where V is released for poll p: it was settled between the two. Where
+-- it arrived, current or not, p passed under no boot under which q did.
+pub record IsOver (H : History) (j m q i p : ℕ) : Type 0 where
+  pub place : ℕ
+  pub end : Delivery
+  pub current : Bool
+  pub settled : StandsAt H place (Settled m end current)
+  pub later : j < place
+  pub earlier : place < i
+  pub another_boot : end ≡ outcome.Arrived → (boot : Boot) → PassesUnder H q boot → ¬ (PassesUnder H p boot)
+
+-- Of two releases to an agent, where it was not added again between them, the earlier is over at the later.
+abbrev pub AreReleasedOnce : History → Type 0
+AreReleasedOnce H = (j i m n : ℕ) (a : List ℕ) (h g q p : ℕ)
+    → StandsAt H j (Release m a h q) → StandsAt H i (Release n a g p) → j < i → IsNotAdded H a j i → IsOver H j m q i p
 
 -- ---- Failures
 

@@ -8,6 +8,7 @@ ghost use Rattle.kl_history.specs.Laws.{
   EndsAreOne,
   AreAppraised,
   AreReleasedOnPasses,
+  AreReleasedOnce,
   TellFailures,
   CountForNothing,
   BeginAnew,
@@ -43,6 +44,12 @@ pub fn recorded_verdicts()
 /// finding.
 pub fn released_shares()
     ensures { (H : History) → Legal H → AreReleasedOnPasses H }
+{}
+
+/// The key share V of an agent is never released while an earlier release of it is open, and at most once for one boot that it
+/// reached. A release from before the agent was last added counts for neither.
+pub fn released_once()
+    ensures { (H : History) → Legal H → AreReleasedOnce H }
 {}
 
 /// Each failure has exactly one notice, in order, and no stale record is a failure.

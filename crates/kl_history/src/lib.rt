@@ -11,7 +11,7 @@ mod worked;
 
 pub use laws::{
     drawn_numbers, each_beginning, looked_back, new_beginnings, open_counts, recorded_verdicts,
-    released_shares, single_ends, single_standing, stale_records, told_failures,
+    released_once, released_shares, single_ends, single_standing, stale_records, told_failures,
 };
 pub use record::{InstallWhy, Record};
 pub use worked::{worked_agents, worked_deliveries, worked_ends, worked_lists, worked_polls};

@@ -4,7 +4,7 @@ use Rattle.std.proofs.lemmas.List.Elements.{All-head, All-tail, All-cons, All-ni
 use Rattle.std.proofs.lemmas.Option.{same_Some}
 use Rattle.kl_registrar.specs.Calls.{Call, Register, Activate, Remove, Registration, Log, agent_of, own}
 use Rattle.kl_registrar.specs.Records.{registered, Matches, IsActive}
-use Rattle.kl_registrar.specs.Activations.{Leaves, WasActivated}
+use Rattle.kl_registrar.specs.Activations.{Leaves, WasActivated, WasRegistered}
 use Rattle.kl_registrar.proofs.Names.{same_or_not, own_ours, own_theirs, same_self}
 
 -- a call on another agent leaves this one
@@ -14,12 +14,6 @@ leaves_other (Activate other tag) id apart = tt
 leaves_other (Remove other) id apart = apart
 
 -- ---- the latest register
-
-record WasRegistered (past : Log) (id : List ℕ) (r : Registration) : Type 0 where
-  between : Log
-  before : Log
-  order : past ≡ between ++ Register id r ∷ before
-  earlier : All (Leaves id) between
 
 registered_before : (call : Call) (past : Log) (id : List ℕ) (r : Registration) → Leaves id call → WasRegistered past id r → WasRegistered (call ∷ past) id r
 registered_before call past id r leaves was = record {
@@ -40,7 +34,7 @@ registered_ours (Register other t) past id r ours is earlier = record {
 registered_ours (Activate other tag) past id r ours is earlier = registered_before (Activate other tag) past id r tt (earlier is)
 registered_ours (Remove other) past id r ours is earlier = cc is
 
-was_registered : (past : Log) (id : List ℕ) (r : Registration) → registered (own past id) ≡ Some r → WasRegistered past id r
+pub was_registered : (past : Log) (id : List ℕ) (r : Registration) → registered (own past id) ≡ Some r → WasRegistered past id r
 was_registered [] id r is = cc is
 was_registered (call ∷ past) id r is = elim (same_or_not (agent_of call) id) [
   | inl e ↦ registered_ours call past id r e.1 (ap registered (sym (own_ours call past id e.0)) ∙ is) (was_registered past id r)
@@ -126,6 +120,9 @@ registered_behind [] before id r left = ap registered (own_ours (Register id r) 
 registered_behind (call ∷ between) before id r left =
     registered_left call (between ++ Register id r ∷ before) id (All-head (Leaves id) call between left)
     ∙ registered_behind between before id r (All-tail (Leaves id) call between left)
+
+pub is_registered : (past : Log) (id : List ℕ) (r : Registration) → WasRegistered past id r → registered (own past id) ≡ Some r
+is_registered past id r was = ap (λ (l : Log). registered (own l id)) was.order ∙ registered_behind was.between was.before id r was.earlier
 
 active_behind : (since past : Log) (id : List ℕ) → All (Leaves id) since → IsActive (own past id) → IsActive (own (since ++ past) id)
 active_behind [] past id left active = active

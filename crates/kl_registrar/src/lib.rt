@@ -14,7 +14,7 @@ pub use fault::RegFault;
 pub use kl_base::Memory;
 pub use record::RegRecord;
 pub use registrar::Registrar;
-pub use theorem::{one_activation, one_count};
+pub use theorem::{one_activation, one_count, one_registration};
 
 #[cfg(test)]
 mod tests;

@@ -27,7 +27,7 @@ use std::marker::Model;
 const MOST_OTHERS: usize = 1_024;
 
 /// The records of all agents. What they mean is said by the calls that were done: `Keeps self past` says that the
-/// registrar did the calls of `past`, the newest first.
+/// registrar keeps what one does that did the calls of `past`, the newest first.
 #[derive(Drop)]
 pub struct Registrar {
     records: BTreeMap<AgentId, RegRecord>,

@@ -492,3 +492,20 @@ fn what_a_json_policy_allows(rt: HostRuntime) -> Result<(), Fail> {
     }
     Ok(())
 }
+
+#[test]
+fn a_policy_is_that_of_its_text_in_its_form(rt: HostRuntime) -> Result<(), Fail> {
+    let flat = read_flat(rt.alloc(), FLAT)?;
+    let json = read_json(rt.alloc(), JSON, &mut StdMaker::new())?;
+    for (policy, kind, text, want) in [
+        (&flat, PolicyKind::Flat, FLAT, true),
+        (&flat, PolicyKind::Json, FLAT, false),
+        (&flat, PolicyKind::Flat, "", false),
+        (&json, PolicyKind::Json, JSON, true),
+        (&json, PolicyKind::Flat, JSON, false),
+        (&json, PolicyKind::Json, LENIENT, false),
+    ] {
+        assert!(rt; policy.is_of(kind, text) == want, "{text}");
+    }
+    Ok(())
+}

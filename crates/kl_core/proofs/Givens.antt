@@ -1,5 +1,8 @@
--- The ticket that a poll's Begin gave stays its ticket, whatever comes behind.
-use Rattle.std.proofs.Common.{◌≡◌, ℕ, ◌≤◌, [], ◌∷◌, ◌++◌, Some, inl, inr, ap, sym, ◌∙◌, subst, arith}
+-- The ticket that a poll's Begin gave stays its ticket, and the share that a Release gave stays its share, whatever comes behind; and
+-- a release stays open until it is settled.
+use Rattle.std.proofs.Common.{◌≡◌, ℕ, ◌≤◌, Bool, true, false, not, ◌&&◌, ◌||◌, [], ◌∷◌, ◌++◌, Some, inl, inr, refl, ap, sym, ◌∙◌, subst, arith, append_assoc, append-nil}
+use Rattle.std.specs.Prelude.{All}
+use Rattle.std.proofs.lemmas.List.Elements.{All-head, All-tail}
 use Rattle.std.proofs.lemmas.List.{reverse-append}
 use Rattle.std.proofs.lemmas.Bool.{ne_eqb, cond-false, cases_eq}
 use lib.Dec.{eqb}
@@ -8,11 +11,14 @@ use Rattle.kl_appraise.specs.Terms.{TermsFields}
 use Rattle.kl_incr.specs.Kept.{TicketFields}
 use Rattle.kl_history.specs.declared.record.Record.{Record}
 use Rattle.kl_history.specs.declared.record.Record.TheVariants.{Install, Begin, Verdict, Restart, Lost, Dropped, Release, Settled, Stop, Remove}
-use Rattle.kl_history.specs.Records.{History, Past, past_of, Start, start_of, terms_of, is_begin, is_install, generations, polls}
+use Rattle.kl_history.specs.Records.{History, Past, past_of, Start, start_of, releases, settles, is_unsettled, terms_of, is_begin, is_install, generations, polls}
 use Rattle.kl_history.specs.Legal.{Row, IsLegalPast, Legal}
 use Rattle.kl_core.specs.Tickets.{IsGiven}
-use Rattle.kl_core.proofs.OneMore.{counted, counted_as, Calm, Quiet, calm_install, calm_begin, quiet_verdict, quiet_restart, quiet_lost, quiet_dropped, quiet_release, quiet_settled, quiet_stop, quiet_remove}
+use Rattle.kl_core.specs.Shares.{ShareFields, IsGivenShare, IsOpenShare}
+use Rattle.kl_core.proofs.OneMore.{past_of-snoc, counted, counted_as, Calm, Quiet, calm_install, calm_begin, quiet_verdict, quiet_restart, quiet_lost, quiet_dropped, quiet_release, quiet_settled, quiet_stop, quiet_remove}
 use Rattle.kl_core.proofs.Keeping.{given_stays}
+use Rattle.kl_core.proofs.Delivered.{evidence_stays}
+use Rattle.kl_core.proofs.Awaited.{handing_stays}
 
 -- the numbers of polls and generations were drawn
 record Drawn (past : Past) : Type 0 where
@@ -63,7 +69,7 @@ drawn_of (Settled n o c ∷ past) legal = drawn_quiet past (Settled n o c) (quie
 drawn_of (Stop a ∷ past) legal = drawn_quiet past (Stop a) (quiet_stop past a) (drawn_of past legal.0)
 drawn_of (Remove a ∷ past) legal = drawn_quiet past (Remove a) (quiet_remove past a) (drawn_of past legal.0)
 
-calm_of : (past : Past) (r : Record) → IsLegalPast past → Row past r → Calm past r
+pub calm_of : (past : Past) (r : Record) → IsLegalPast past → Row past r → Calm past r
 calm_of past (Install a g t w) legal row = calm_install past a g t w (drawn_of past legal).named row.0
 calm_of past (Begin p a g n at from) legal row = calm_begin past p a g n at from (drawn_of past legal).begun row.0
 calm_of past (Verdict p e s v c) legal row = (quiet_verdict past p e s v c).calm
@@ -75,13 +81,58 @@ calm_of past (Settled n o c) legal row = (quiet_settled past n o c).calm
 calm_of past (Stop a) legal row = (quiet_stop past a).calm
 calm_of past (Remove a) legal row = (quiet_remove past a).calm
 
+-- ---- tickets
 given_behind : (newer past : Past) (t : TicketFields) → IsLegalPast (newer ++ past) → IsGiven past t → IsGiven (newer ++ past) t
 given_behind [] past t legal given = given
 given_behind (r ∷ newer) past t legal given = given_stays (newer ++ past) r t (calm_of (newer ++ past) r legal.0 legal.1) (given_behind newer past t legal.0 given)
 
+-- what holds of a past, and of each legal one with records more, holds of each later history
+later : (P : Past → Type 0) → ((newer past : Past) → IsLegalPast (newer ++ past) → P past → P (newer ++ past)) → (old new : History) → IsPrefix old new → Legal new
+    → P (past_of old) → P (past_of new)
+later P behind old new (more, grown) legal holds =
+    let reversed : past_of new ≡ past_of more ++ past_of old = ap past_of (sym grown) ∙ reverse-append old more in
+    subst P (sym reversed) (behind (past_of more) (past_of old) (subst IsLegalPast reversed legal) holds)
+
 -- what a desk saw once, it sees in each later history
 pub given_stands : (old new : History) (t : TicketFields) → IsPrefix old new → Legal new → IsGiven (past_of old) t → IsGiven (past_of new) t
-given_stands old new t (more, grown) legal given =
-    let reversed : past_of new ≡ past_of more ++ past_of old = ap past_of (sym grown) ∙ reverse-append old more in
-    let P : Past → Type 0 = λ past. IsGiven past t in
-    subst P (sym reversed) (given_behind (past_of more) (past_of old) t (subst IsLegalPast reversed legal) given)
+given_stands old new t known legal given = later (λ past. IsGiven past t) (λ newer past. given_behind newer past t) old new known legal given
+
+-- ---- shares
+pub share_stays : (r : Record) (past : Past) (s : ShareFields) → IsLegalPast (r ∷ past) → IsGivenShare past s → IsGivenShare (r ∷ past) s
+share_stays r past s legal given = record {
+  released = handing_stays r past s.number _ legal given.released;
+  terms = given.terms;
+  under = (calm_of past r legal.0 legal.1).terms s.generation given.terms given.under;
+  v = given.v;
+  contact = given.contact;
+  evidence = given.evidence;
+  passed = evidence_stays r past s.poll given.evidence legal given.passed;
+  public = given.public;
+}
+
+share_behind : (newer past : Past) (s : ShareFields) → IsLegalPast (newer ++ past) → IsGivenShare past s → IsGivenShare (newer ++ past) s
+share_behind [] past s legal given = given
+share_behind (r ∷ newer) past s legal given = share_stays r (newer ++ past) s legal (share_behind newer past s legal.0 given)
+
+pub share_stands : (old new : History) (s : ShareFields) → IsPrefix old new → Legal new → IsGivenShare (past_of old) s → IsGivenShare (past_of new) s
+share_stands old new s known legal given = later (λ past. IsGivenShare past s) (λ newer past. share_behind newer past s) old new known legal given
+
+-- ---- releases that are not settled
+or_true : (b : Bool) → (b || true) ≡ true
+or_true true = refl
+or_true false = refl
+
+pub unsettled_stays : (r : Record) (past : Past) (n : ℕ) → settles n r ≡ false → is_unsettled past n ≡ true → is_unsettled (r ∷ past) n ≡ true
+unsettled_stays r past n other is = ap (λ b. not b && (releases n r || is_unsettled past n)) other ∙ ap (λ b. releases n r || b) is ∙ or_true (releases n r)
+
+-- until a record settles it
+pub unsettled_stands : (old more : History) (n : ℕ) → All (λ r. settles n r ≡ false) more → is_unsettled (past_of old) n ≡ true → is_unsettled (past_of (old ++ more)) n ≡ true
+unsettled_stands old [] n others is = ap (λ H. is_unsettled (past_of H) n) (append-nil old) ∙ is
+unsettled_stands old (r ∷ more) n others is =
+    ap (λ H. is_unsettled (past_of H) n) (sym (append_assoc old (r ∷ []) more))
+    ∙ unsettled_stands (old ++ r ∷ []) more n (All-tail (λ r. settles n r ≡ false) r more others)
+    (ap (λ past. is_unsettled past n) (past_of-snoc old r) ∙ unsettled_stays r (past_of old) n (All-head (λ r. settles n r ≡ false) r more others) is)
+
+-- and the share of it is that of an open release
+pub open_share_stands : (old more : History) (s : ShareFields) → Legal (old ++ more) → All (λ r. settles s.number r ≡ false) more → IsOpenShare (past_of old) s → IsOpenShare (past_of (old ++ more)) s
+open_share_stands old more s legal others is = (unsettled_stands old more s.number others is.0, share_stands old (old ++ more) s (more, refl) legal is.1)

@@ -96,20 +96,21 @@ has_theirs H past r a (Some e) calm none apart is =
     entry_step H past r a e e calm refl refl refl none is (subst (λ (own_past : Past). Says own_past is.with e) (sym (own_theirs past r a apart)) is.says)
 
 -- what is kept of an agent that was installed now
-pub entry_fresh : (H : History) (past : Past) (a : List ℕ) (g : ℕ) (t : TermsFields) (w : InstallWhy) (v : Bool) → Numbers past → g ≡ generations past + 1
-    → Says (Install a g t w ∷ own past a) t (fresh g (length H) v) → IsEntry (H ++ Install a g t w ∷ []) (Install a g t w ∷ past) a (fresh g (length H) v)
-entry_fresh H past a g t w v numbers next says = record {
+abbrev pub newly : ℕ → ℕ → Bool → ℕ → Option ℕ → Entry
+newly g place v added handed = record (fresh g place v) { added = added; handed = handed }
+
+pub entry_fresh : (H : History) (past : Past) (a : List ℕ) (g : ℕ) (t : TermsFields) (w : InstallWhy) (v : Bool) (added : ℕ) (handed : Option ℕ)
+    → Numbers past → g ≡ generations past + 1
+    → Says (Install a g t w ∷ own past a) t (newly g (length H) v added handed)
+    → IsEntry (H ++ Install a g t w ∷ []) (Install a g t w ∷ past) a (newly g (length H) v added handed)
+entry_fresh H past a g t w v added handed numbers next says = record {
   with = t;
   place_is = terms_at-end H a g t w;
   named = cond-true (eqb g g) _ _ (eq-eqb g g refl);
-  says = subst (λ (own_past : Past). Says own_past t (fresh g (length H) v)) (sym (own_ours past (Install a g t w) a (eq_yes a a refl))) says;
+  says = subst (λ (own_past : Past). Says own_past t (newly g (length H) v added handed)) (sym (own_ours past (Install a g t w) a (eq_yes a a refl))) says;
   busy_is_latest = λ q busy. absurd (let le = numbers.under_within q busy.started busy.began in let e = busy.generation in omega arith);
   latest_is_its = λ q is. absurd (none-some q is);
 }
-
--- V has reached no boot of an agent that is installed once more
-pub none_reached_again : (H : History) (past : Past) (a : List ℕ) (e : Entry) (boot : _) → IsEntry H past a e → ¬ (HasReached (own past a) boot)
-none_reached_again H past a e boot entry = entry.says.none_reached boot
 
 -- ---- a poll begins
 pub begins_theirs : (past : Past) (p : ℕ) (b : List ℕ) (g : ℕ) (n : List ℕ) (at from : ℕ) (a : List ℕ) → bytes_eq a b ≡ false → BeginsNone past (Begin p b g n at from) a

@@ -6,7 +6,7 @@ use Rattle.std.specs.declared.cmp.Ordering.TheVariants.{Less, Equal, Greater}
 use Rattle.std.specs.Cmp.Lexicographic.{slice_cmp}
 use Rattle.std.proofs.lemmas.Cmp.{nat_list_cmp_total}
 use Rattle.std.proofs.lemmas.Map.Text.{is_eq-slice_cmp}
-use Rattle.std.proofs.lemmas.Bool.{false≢true}
+use Rattle.std.proofs.lemmas.Bool.{both_ways, false≢true}
 use Rattle.std.proofs.lemmas.Option.{same_Some, none-some}
 use Rattle.kl_policy.specs.PolicyFields.{PolicyFields}
 use Rattle.kl_appraise.specs.Terms.{TermsFields}
@@ -16,12 +16,18 @@ use Rattle.kl_states.specs.declared.op.Op.{Op}
 use Rattle.kl_states.specs.declared.op.State.{State}
 use Rattle.kl_states.specs.declared.outcome.DropWhy.{DropWhy}
 use Rattle.kl_states.specs.declared.outcome.LostWhy.{LostWhy}
+use Rattle.kl_states.specs.declared.outcome.Outcome.{Outcome}
 use Rattle.kl_appraise.specs.declared.kept.Kept.{Kept}
 use Rattle.kl_entry.specs.Entries.{EntryFields}
 use Rattle.kl_history.specs.declared.record.Record.{Record}
-use Rattle.kl_history.specs.Records.{History, Past, past_of, own}
-use Rattle.kl_history.specs.LookBacks.{Installed, installed}
+use Rattle.kl_history.specs.declared.record.Record.TheVariants.{Settled}
+use Rattle.kl_quote.specs.declared.evidence.Evidence.{Evidence}
+use Rattle.kl_states.specs.Ops.{is_owed}
+use Rattle.kl_history.specs.Records.{History, Past, past_of, own, terms_of, is_unsettled}
+use Rattle.kl_history.specs.LookBacks.{Installed, installed, Passing}
 use Rattle.kl_history.specs.Legal.{Legal, IsBusy}
+use Rattle.kl_history.specs.Releases.{MayRelease}
+use Rattle.kl_history.specs.States.{HasOp}
 use Rattle.kl_history.proofs.Drawn.{ends_once}
 use Rattle.kl_history.proofs.OneStanding.{are_one}
 use Rattle.kl_core.specs.declared.refusal.Refusal.{Refusal}
@@ -29,15 +35,19 @@ use Rattle.kl_core.specs.declared.refusal.Refusal.TheVariants.{NoAgent, Exists, 
 use Rattle.kl_core.specs.Installs.{RefusesAdd, Adds, RefusesReplace, Replaces, RefusesReactivate, Reactivates}
 use Rattle.kl_core.specs.Endings.{RefusesStop, Stops, RefusesRemove, Removes}
 use Rattle.kl_core.specs.Begins.{MayPoll, IsPolled, RefusesBegin, Begins, BeginAnswers}
+use Rattle.kl_core.specs.Shares.{ShareFields, evidence_of, IsIn, IsOwed, RefusesRelease, Gives, Releases}
 use Rattle.kl_core.specs.declared.closed.Closed.{Closed}
 use Rattle.kl_core.specs.declared.closed.ClosedAs.{ClosedAs}
 use Rattle.kl_core.specs.declared.closed.ClosedAs.TheVariants.{Lost, Dropped}
 use Rattle.kl_core.specs.Closes.{IsClosed, OwnCloses, AnyCloses, closed_by, found_record, OwnFinishes, Finishes, lost_record, OwnLoses, Loses, dropped_record, OwnDrops, Drops}
 use Rattle.kl_core.specs.Books.{BookFields}
+use Rattle.kl_core.specs.declared.settlement.Settlement.{Settlement}
+use Rattle.kl_core.specs.Shares.{ShareFields, IsSettlement, OwnSettles, Settles}
 use Rattle.kl_core.specs.States.{IsState, StateAnswers}
 use Rattle.kl_core.specs.Picks.{IsAhead, PickAnswers}
 use Rattle.kl_core.specs.Delivering.{NoticeAnswers, MarkAnswers}
 use Rattle.kl_core.proofs.Texts.{eq_same}
+use Rattle.kl_core.proofs.Awaited.{awaited_once}
 use Rattle.kl_core.specs.Answers.{IsAmple, IsAmpleWith, IsAny, IsOneAnswer}
 
 -- a refusal that is one, with what it hands back
@@ -218,6 +228,78 @@ one_begin H a n at legal (Ok t) (Err e) x y k m = absurd (m (no_begin_refusal (p
 one_begin H a n at legal (Err e) (Ok u) x y k m = absurd (k (no_begin_refusal (past_of H) a n at u e y x))
 one_begin H a n at legal (Err e) (Err f) x y k m = ap Err (one_begin_refusal H a e f legal x y k m)
 
+-- ---- release
+one_state_in : (past : Past) (a : List ℕ) (o p : Op) → IsIn past a o → IsIn past a p → o ≡ p
+one_state_in past a o p x y = same_Some o p ((are_one (own past a)).state (Some o) (Some p) x y)
+
+not_in : (past : Past) (a : List ℕ) (o : Op) → installed (own past a) ≡ None → ¬ (IsIn past a o)
+not_in past a o none is = both_ways (is_some (installed (own past a))) (ap is_some none) is.0
+
+not_owed : (past : Past) (a : List ℕ) (o : Op) → IsIn past a o → is_owed o ≡ false → ¬ (IsOwed past a)
+not_owed past a o is none (p, also, owed) = both_ways (is_owed o) none (ap is_owed (one_state_in past a o p is also) ∙ owed)
+
+one_release_refusal : (H : History) (a : List ℕ) (x y : Refusal) → Legal H → RefusesRelease (past_of H) a x → RefusesRelease (past_of H) a y → x ≢ Memory → y ≢ Memory
+    → x ≡ y
+one_release_refusal H a NoAgent NoAgent legal x y m n = refl
+one_release_refusal H a (WrongState o) (WrongState p) legal x y m n = ap WrongState (one_state_in (past_of H) a o p x.0 y.0)
+one_release_refusal H a (Busy p) (Busy q) legal x y m n = ap Busy (awaited_once (past_of H) a p q legal x.1 y.1)
+one_release_refusal H a JournalRecords JournalRecords legal x y m n = refl
+one_release_refusal H a Memory _ legal x y m n = absurd (m refl)
+one_release_refusal H a _ Memory legal x y m n = absurd (n refl)
+one_release_refusal H a NoAgent (WrongState p) legal x y m n = absurd (not_in (past_of H) a p x y.0)
+one_release_refusal H a (WrongState o) NoAgent legal x y m n = absurd (not_in (past_of H) a o y x.0)
+one_release_refusal H a NoAgent (Busy q) legal x y m n = absurd (not_in (past_of H) a y.0.0 x y.0.1)
+one_release_refusal H a (Busy p) NoAgent legal x y m n = absurd (not_in (past_of H) a x.0.0 y x.0.1)
+one_release_refusal H a NoAgent JournalRecords legal x y m n = absurd (not_in (past_of H) a y.0.0.0 x y.0.0.1)
+one_release_refusal H a JournalRecords NoAgent legal x y m n = absurd (not_in (past_of H) a x.0.0.0 y x.0.0.1)
+one_release_refusal H a (WrongState o) (Busy q) legal x y m n = absurd (not_owed (past_of H) a o x.0 x.1 y.0)
+one_release_refusal H a (Busy p) (WrongState o) legal x y m n = absurd (not_owed (past_of H) a o y.0 y.1 x.0)
+one_release_refusal H a (WrongState o) JournalRecords legal x y m n = absurd (not_owed (past_of H) a o x.0 x.1 y.0.0)
+one_release_refusal H a JournalRecords (WrongState o) legal x y m n = absurd (not_owed (past_of H) a o y.0 y.1 x.0.0)
+one_release_refusal H a (Busy p) JournalRecords legal x y m n = absurd (y.0.1 p x.1)
+one_release_refusal H a JournalRecords (Busy q) legal x y m n = absurd (x.0.1 q y.1)
+one_release_refusal H a _ _ legal x y m n = grind arith
+
+-- what the release rule says of an agent
+given_rule : (past : Past) (a : List ℕ) (s : ShareFields) → Gives a s past → MayRelease past s.number a s.generation s.poll
+given_rule past a s x = subst (λ (b : List ℕ). MayRelease past s.number b s.generation s.poll) x.agent x.rule
+
+no_release_refusal : (past : Past) (a : List ℕ) (s : ShareFields) (why : Refusal) → Gives a s past → RefusesRelease past a why → why ≡ Memory
+no_release_refusal past a s Memory x y = refl
+no_release_refusal past a s NoAgent x y = let rule = given_rule past a s x in absurd (none-some _ (sym y ∙ rule.installed))
+no_release_refusal past a s (WrongState o) x y = let rule = given_rule past a s x in absurd (not_owed past a o y.0 y.1 (rule.op, (ap is_some rule.installed, rule.state), rule.owed))
+no_release_refusal past a s (Busy n) x y = let rule = given_rule past a s x in absurd (both_ways (is_unsettled past n) (rule.alone n y.1.0 y.1.1) y.1.2)
+no_release_refusal past a s JournalRecords x y = absurd (y.1 x.room)
+no_release_refusal past a s _ x y = absurd y
+
+share_by : ℕ → List ℕ → ℕ → ℕ → List ℕ → List ℕ → List ℕ → ShareFields
+share_by n a g p v public contact = record { number = n; agent = a; generation = g; poll = p; v = v; public = public; contact = contact }
+
+same_shares : (s t : ShareFields) → s.number ≡ t.number → s.agent ≡ t.agent → s.generation ≡ t.generation → s.poll ≡ t.poll → s.v ≡ t.v → s.public ≡ t.public → s.contact ≡ t.contact
+    → s ≡ t
+unfolding share_by
+same_shares s t number agent generation poll v public contact =
+    let same : share_by s.number s.agent s.generation s.poll s.v s.public s.contact ≡ share_by t.number t.agent t.generation t.poll t.v t.public t.contact = cc in same
+
+one_share : (past : Past) (a : List ℕ) (s t : ShareFields) → Gives a s past → Gives a t past → s ≡ t
+one_share past a s t x y =
+    let first = given_rule past a s x in
+    let second = given_rule past a t y in
+    let generation : s.generation ≡ t.generation = first.named ∙ ap (λ (i : Installed). i.generation) (one_installed past a first.with second.with first.installed second.installed) ∙ sym second.named in
+    let poll : s.poll ≡ t.poll = first.stands ∙ ap (λ (k : Passing). k.poll) (same_Some first.pass second.pass (sym first.passed ∙ second.passed)) ∙ sym second.stands in
+    let terms = same_Some x.given.terms y.given.terms (sym x.given.under ∙ ap (terms_of past) generation ∙ y.given.under) in
+    let evidence = same_Some x.given.evidence y.given.evidence (sym x.given.passed ∙ ap (evidence_of past) poll ∙ y.given.passed) in
+    same_shares s t (first.next ∙ sym second.next) (x.agent ∙ sym y.agent) generation poll
+    (same_Some s.v t.v (sym x.given.v ∙ ap (λ (u : TermsFields). u.v) terms ∙ y.given.v))
+    (sym x.given.public ∙ ap (λ (e : Evidence). e.public) evidence ∙ y.given.public)
+    (sym x.given.contact ∙ ap (λ (u : TermsFields). u.contact) terms ∙ y.given.contact)
+
+pub one_release : (H : History) (a : List ℕ) → Legal H → IsOneAnswer IsAmple (Releases a) (past_of H)
+one_release H a legal (Ok s) (Ok t) x y k m = ap Ok (one_share (past_of H) a s t x y)
+one_release H a legal (Ok s) (Err e) x y k m = absurd (m (no_release_refusal (past_of H) a s e x y))
+one_release H a legal (Err e) (Ok t) x y k m = absurd (k (no_release_refusal (past_of H) a t e y x))
+one_release H a legal (Err e) (Err f) x y k m = ap Err (one_release_refusal H a e f legal x y k m)
+
 -- ---- closes
 closed_so : ℕ → List ℕ → ClosedAs → Bool → Option Op → Closed
 closed_so p a what now op = record { poll = p; agent = a; as_what = what; current = now; op = op }
@@ -326,3 +408,31 @@ one_mark found number true true x y m n = refl
 one_mark found number true false x y m n = absurd (false≢true (y.1 (x.0 refl)))
 one_mark found number false true x y m n = absurd (false≢true (x.1 (y.0 refl)))
 one_mark found number false false x y m n = refl
+
+-- ---- settlements
+settlement_by : ℕ → Outcome → Bool → Option Op → Settlement
+settlement_by n o now op = record { number = n; outcome = o; current = now; op = op }
+
+same_settlements : (x y : Settlement) → x.number ≡ y.number → x.outcome ≡ y.outcome → x.current ≡ y.current → x.op ≡ y.op → x ≡ y
+unfolding settlement_by
+same_settlements x y number outcome current op =
+    let same : settlement_by x.number x.outcome x.current x.op ≡ settlement_by y.number y.outcome y.current y.op = cc in same
+
+one_settlement : (past : Past) (s : ShareFields) (o : Outcome) (x y : Settlement) → IsSettlement past s o x → IsSettlement past s o y → x ≡ y
+one_settlement past s o x y one other =
+    let now : x.current ≡ y.current = one.now ∙ sym other.now in
+    let state = subst (λ (b : Bool). HasOp (own (Settled s.number o b ∷ past) s.agent) y.op) (sym now) other.state in
+    same_settlements x y (one.number ∙ sym other.number) (one.outcome ∙ sym other.outcome) now
+    ((are_one (own (Settled s.number o x.current ∷ past) s.agent)).state x.op y.op one.state state)
+
+pub one_settle : (past : Past) (s : ShareFields) (o : Outcome) → IsOneAnswer IsAny (Settles s o) past
+one_settle past s o (Ok a) (Ok b) x y m n = ap Ok (one_settlement past s o a b x.1 y.1)
+one_settle past s o (Ok a) (Err e) x y m n = absurd (y.0 x.0)
+one_settle past s o (Err e) (Ok b) x y m n = absurd (x.0 y.0)
+one_settle past s o (Err e) (Err f) x y m n = ap Err (x.1 ∙ sym y.1)
+
+pub one_own_settle : (past : Past) (s : ShareFields) (o : Outcome) → IsOneAnswer IsAny (OwnSettles s o) past
+one_own_settle past s o (Ok a) (Ok b) x y m n = ap Ok (one_settlement past s o a b x.1 y.1)
+one_own_settle past s o (Ok a) (Err e) x y m n = absurd (false≢true (sym y.0 ∙ x.0))
+one_own_settle past s o (Err e) (Ok b) x y m n = absurd (false≢true (sym x.0 ∙ y.0))
+one_own_settle past s o (Err e) (Err f) x y m n = ap Err (x.1 ∙ sym y.1)

@@ -23,12 +23,12 @@ pub counted_as : (p : Record → Bool) (r : Record) (past : Past) (b : Bool) →
 counted_as p r past b is = counted p r past ∙ ap (λ b. cond b 1 0 + count_by p past) is
 
 -- ---- the terms of an Install at a place
-slice_get-front : {X : Type 0} → (xs ys : List X) (i : ℕ) (x : X) → slice_get xs i ≡ Some x → slice_get (xs ++ ys) i ≡ Some x
+pub slice_get-front : {X : Type 0} → (xs ys : List X) (i : ℕ) (x : X) → slice_get xs i ≡ Some x → slice_get (xs ++ ys) i ≡ Some x
 slice_get-front [] ys i x is = cc
 slice_get-front (y ∷ xs) ys zero x is = is
 slice_get-front (y ∷ xs) ys (suc i) x is = slice_get-front xs ys i x is
 
-slice_get-seam : {X : Type 0} → (xs ys : List X) (x : X) → slice_get (xs ++ x ∷ ys) (length xs) ≡ Some x
+pub slice_get-seam : {X : Type 0} → (xs ys : List X) (x : X) → slice_get (xs ++ x ∷ ys) (length xs) ≡ Some x
 slice_get-seam [] ys x = refl
 slice_get-seam (y ∷ xs) ys x = slice_get-seam xs ys x
 

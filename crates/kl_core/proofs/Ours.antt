@@ -1,14 +1,18 @@
 -- Which agent a record belongs to, and what one record more does to what an agent's own records say.
-use Rattle.std.proofs.Common.{◌≡◌, ℕ, suc, ◌+◌, ◌<◌, Bool, true, false, cond, ◌||◌, List, [], ◌∷◌, Option, Some, None, refl, ap, sym, ◌∙◌, subst, arith}
+use Rattle.std.proofs.Common.{◌≡◌, ℕ, suc, ◌+◌, ◌<◌, ◌≤◌, Bool, true, false, cond, ◌||◌, List, [], ◌∷◌, Option, Some, None, refl, ap, sym, ◌∙◌, subst, arith}
 use Rattle.std.specs.Prelude.{is_some}
 use Rattle.std.proofs.lemmas.Bool.{cond-false, cond-true, eq-eqb, or_parts, both_ways}
+use Rattle.std.proofs.lemmas.Option.{same_Some, none-some}
 use lib.Dec.{eqb}
 use Rattle.kl_entry.specs.Entries.{EntryFields}
 use Rattle.kl_states.specs.declared.op.Op.{Op}
 use Rattle.kl_states.specs.declared.op.Op.TheVariants.{TenantFailed, InvalidQuote, Failed as StateFailed}
 use Rattle.kl_states.specs.declared.verdict.Verdict.TheVariants.{Pass, Failed, Invalid}
+use Rattle.kl_states.specs.declared.outcome.Outcome.{Outcome}
+use Rattle.kl_states.specs.declared.outcome.Outcome.TheVariants.{Arrived, Missed, Withdrawn}
 use Rattle.kl_quote.specs.declared.evidence.Evidence.{Evidence}
 use Rattle.kl_appraise.specs.declared.judged.Boot.{Boot}
+use Rattle.kl_appraise.specs.declared.kept.Kept.{Kept}
 use Rattle.kl_appraise.specs.Terms.{TermsFields}
 use Rattle.kl_appraise.specs.declared.judged.Outcome.TheVariants as finding
 use Rattle.kl_history.specs.declared.record.Record.{Record}
@@ -16,12 +20,13 @@ use Rattle.kl_history.specs.declared.record.Record.TheVariants.{Install, Begin, 
 use Rattle.kl_history.specs.declared.record.InstallWhy.{InstallWhy}
 use Rattle.kl_history.specs.Records.{Past, begins, belongs, own}
 use Rattle.kl_history.specs.LookBacks.{came, losses, missed}
-use Rattle.kl_history.specs.Accepted.{no_boot, HasAccepted, IsAccepted, WasAccepted}
+use Rattle.kl_history.specs.Accepted.{no_boot, SignsBoot, HasAccepted, IsAccepted, WasAccepted}
 use Rattle.kl_history.specs.States.{ended, is_stop, is_invalid, is_failed, HasReached}
 use Rattle.kl_core.specs.declared.entry.Entry.{Entry}
-use Rattle.kl_core.specs.Inner.Keeping.{Says}
+use Rattle.kl_core.specs.declared.entry.Passed.{Passed}
+use Rattle.kl_core.specs.Inner.Keeping.{Says, Tells}
 use Rattle.kl_core.specs.States.{Accepted}
-use Rattle.kl_core.specs.Inner.Steps.{fresh, stopped, polled, lost, found}
+use Rattle.kl_core.specs.Inner.Steps.{fresh, stopped, polled, lost, found, handed, settled}
 
 -- ---- whose a record is
 pub own_theirs : (past : Past) (r : Record) (a : List ℕ) → belongs past a r ≡ false → own (r ∷ past) a ≡ own past a
@@ -58,18 +63,20 @@ unfolding HasAccepted
 was_now past p a g n at from entries boot is = rw (eq-eqb p p refl) is
 
 -- ---- what an agent's own records say after one record more
-pub says_fresh : (past : Past) (a : List ℕ) (g : ℕ) (t : TermsFields) (w : InstallWhy) (place : ℕ) → ((boot : Boot) → ¬ (HasReached (Install a g t w ∷ past) boot))
-    → Says (Install a g t w ∷ past) t (fresh g place (is_some t.v))
+pub says_fresh : (past : Past) (a : List ℕ) (g : ℕ) (t : TermsFields) (w : InstallWhy) (place added : ℕ) (handed : Option ℕ)
+    → Says (Install a g t w ∷ past) t (record (fresh g place (is_some t.v)) { added = added; handed = handed })
 unfolding HasAccepted
-says_fresh past a g t w place unreached = record {
+says_fresh past a g t w place added handed = record {
   terms_are = refl;
   v_is = refl;
   end_is = refl;
   losses_are = refl;
   few_losses = omega arith;
-  none_missed = refl;
-  none_reached = unreached;
-  pass_is = refl;
+  missed_are = refl;
+  few_missed = omega arith;
+  no_pass = λ none. refl;
+  pass_is = λ k is. absurd (none-some k is);
+  reached_is = λ k is. absurd (none-some k is);
   accepted = ([], no_boot, (refl, refl), refl);
   polled = refl;
   begun = refl;
@@ -83,9 +90,11 @@ says_stopped past a t e says = record {
   end_is = refl;
   losses_are = says.losses_are;
   few_losses = says.few_losses;
-  none_missed = says.none_missed;
-  none_reached = says.none_reached;
+  missed_are = says.missed_are;
+  few_missed = says.few_missed;
+  no_pass = says.no_pass;
   pass_is = says.pass_is;
+  reached_is = says.reached_is;
   accepted = says.accepted;
   polled = says.polled;
   begun = says.begun;
@@ -99,9 +108,11 @@ says_polled past p a g n at from t e says = record {
   end_is = says.end_is;
   losses_are = says.losses_are;
   few_losses = says.few_losses;
-  none_missed = says.none_missed;
-  none_reached = says.none_reached;
+  missed_are = says.missed_are;
+  few_missed = says.few_missed;
+  no_pass = says.no_pass;
   pass_is = says.pass_is;
+  reached_is = says.reached_is;
   accepted = says.accepted;
   polled = refl;
   begun = refl;
@@ -115,9 +126,11 @@ says_dropped past p w t e says = record {
   end_is = says.end_is;
   losses_are = says.losses_are;
   few_losses = says.few_losses;
-  none_missed = says.none_missed;
-  none_reached = says.none_reached;
+  missed_are = says.missed_are;
+  few_missed = says.few_missed;
+  no_pass = says.no_pass;
   pass_is = says.pass_is;
+  reached_is = says.reached_is;
   accepted = says.accepted;
   polled = says.polled;
   begun = says.begun;
@@ -154,9 +167,10 @@ going past live =
 or_none : (a b : Bool) → a ≡ false → b ≡ false → (a || b) ≡ false
 or_none a b no_a no_b = ap (λ x. x || b) no_a ∙ no_b
 
-pub says_passed : (past : Past) (p : ℕ) (e : Evidence) (s : Bool) (cut : ℕ) (t : TermsFields) (n : ℕ) (entry : Entry) → Says past t entry → ended past ≡ None
-    → Accepted (Verdict p e s (Pass cut) true ∷ past) n → Says (Verdict p e s (Pass cut) true ∷ past) t (found p (finding.Verdict (Pass cut)) n entry)
-says_passed past p e s cut t n entry says live accepted =
+pub says_passed : (past : Past) (p : ℕ) (e : Evidence) (s : Bool) (cut : ℕ) (t : TermsFields) (place : ℕ) (next : Kept) (reached : Bool) (entry : Entry) → Says past t entry → ended past ≡ None
+    → Accepted (Verdict p e s (Pass cut) true ∷ past) next.count → SignsBoot e next.boot → Tells reached (HasReached past next.boot)
+    → Says (Verdict p e s (Pass cut) true ∷ past) t (found p place (finding.Verdict (Pass cut)) (Some next) reached entry)
+says_passed past p e s cut t place next reached entry says live accepted signs tells =
     let g = going past live in
     record {
       terms_are = says.terms_are;
@@ -164,18 +178,25 @@ says_passed past p e s cut t n entry says live accepted =
       end_is = still_none _ _ (came is_failed past || eqb (missed past) 5) g.stop g.invalid (or_none _ _ g.failed g.missing) ∙ sym live ∙ says.end_is;
       losses_are = refl;
       few_losses = omega arith;
-      none_missed = says.none_missed;
-      none_reached = says.none_reached;
-      pass_is = refl;
+      missed_are = says.missed_are;
+      few_missed = says.few_missed;
+      no_pass = λ none. absurd (none-some _ (sym none));
+      pass_is = λ k is. (
+        record { poll = p; evidence = e },
+        refl,
+        ap (λ (k : Passed). k.poll) (same_Some _ k is),
+        subst (λ (k : Passed). SignsBoot e k.boot) (same_Some _ k is) signs,
+      );
+      reached_is = λ k is. subst (λ (k : Passed). Tells reached (HasReached past k.boot)) (same_Some _ k is) tells;
       accepted = accepted;
       polled = says.polled;
       begun = says.begun;
     }
 
-pub says_failed : (past : Past) (p : ℕ) (e : Evidence) (s : Bool) (why : _) (t : TermsFields) (n : ℕ) (entry : Entry) → Says past t entry → ended past ≡ None
-    → Says (Verdict p e s (Failed why) true ∷ past) t (found p (finding.Verdict (Failed why)) n entry)
+pub says_failed : (past : Past) (p : ℕ) (e : Evidence) (s : Bool) (why : _) (t : TermsFields) (place : ℕ) (next : Option Kept) (reached : Bool) (entry : Entry) → Says past t entry → ended past ≡ None
+    → Says (Verdict p e s (Failed why) true ∷ past) t (found p place (finding.Verdict (Failed why)) next reached entry)
 unfolding HasAccepted
-says_failed past p e s why t n entry says live =
+says_failed past p e s why t place next reached entry says live =
     let g = going past live in
     record {
       terms_are = says.terms_are;
@@ -183,18 +204,20 @@ says_failed past p e s why t n entry says live =
       end_is = now_failed _ _ g.stop g.invalid;
       losses_are = refl;
       few_losses = omega arith;
-      none_missed = says.none_missed;
-      none_reached = says.none_reached;
-      pass_is = refl;
+      missed_are = says.missed_are;
+      few_missed = says.few_missed;
+      no_pass = λ none. refl;
+      pass_is = λ k is. absurd (none-some k is);
+      reached_is = λ k is. absurd (none-some k is);
       accepted = says.accepted;
       polled = says.polled;
       begun = says.begun;
     }
 
-pub says_invalid : (past : Past) (p : ℕ) (e : Evidence) (s : Bool) (why : _) (t : TermsFields) (n : ℕ) (entry : Entry) → Says past t entry → ended past ≡ None
-    → Says (Verdict p e s (Invalid why) true ∷ past) t (found p (finding.Verdict (Invalid why)) n entry)
+pub says_invalid : (past : Past) (p : ℕ) (e : Evidence) (s : Bool) (why : _) (t : TermsFields) (place : ℕ) (next : Option Kept) (reached : Bool) (entry : Entry) → Says past t entry → ended past ≡ None
+    → Says (Verdict p e s (Invalid why) true ∷ past) t (found p place (finding.Verdict (Invalid why)) next reached entry)
 unfolding HasAccepted
-says_invalid past p e s why t n entry says live =
+says_invalid past p e s why t place next reached entry says live =
     let g = going past live in
     record {
       terms_are = says.terms_are;
@@ -202,18 +225,20 @@ says_invalid past p e s why t n entry says live =
       end_is = cond-false (came is_stop past) _ _ g.stop;
       losses_are = refl;
       few_losses = omega arith;
-      none_missed = says.none_missed;
-      none_reached = says.none_reached;
-      pass_is = refl;
+      missed_are = says.missed_are;
+      few_missed = says.few_missed;
+      no_pass = λ none. refl;
+      pass_is = λ k is. absurd (none-some k is);
+      reached_is = λ k is. absurd (none-some k is);
       accepted = says.accepted;
       polled = says.polled;
       begun = says.begun;
     }
 
-pub says_restarted : (past : Past) (p : ℕ) (e : Evidence) (s : Bool) (t : TermsFields) (n : ℕ) (entry : Entry) → Says past t entry → ended past ≡ None
-    → Says (Restart p e s true ∷ past) t (found p finding.Restart n entry)
+pub says_restarted : (past : Past) (p : ℕ) (e : Evidence) (s : Bool) (t : TermsFields) (place : ℕ) (next : Option Kept) (reached : Bool) (entry : Entry) → Says past t entry → ended past ≡ None
+    → Says (Restart p e s true ∷ past) t (found p place finding.Restart next reached entry)
 unfolding HasAccepted
-says_restarted past p e s t n entry says live =
+says_restarted past p e s t place next reached entry says live =
     let g = going past live in
     record {
       terms_are = says.terms_are;
@@ -221,9 +246,11 @@ says_restarted past p e s t n entry says live =
       end_is = still_none _ _ (came is_failed past || eqb (missed past) 5) g.stop g.invalid (or_none _ _ g.failed g.missing) ∙ sym live ∙ says.end_is;
       losses_are = refl;
       few_losses = omega arith;
-      none_missed = says.none_missed;
-      none_reached = says.none_reached;
-      pass_is = refl;
+      missed_are = says.missed_are;
+      few_missed = says.few_missed;
+      no_pass = λ none. refl;
+      pass_is = λ k is. absurd (none-some k is);
+      reached_is = λ k is. absurd (none-some k is);
       accepted = ([], no_boot, (refl, refl), refl);
       polled = says.polled;
       begun = says.begun;
@@ -238,9 +265,11 @@ says_stale_verdict past p e s (Pass cut) t entry says = record {
   end_is = says.end_is;
   losses_are = says.losses_are;
   few_losses = says.few_losses;
-  none_missed = says.none_missed;
-  none_reached = says.none_reached;
+  missed_are = says.missed_are;
+  few_missed = says.few_missed;
+  no_pass = says.no_pass;
   pass_is = says.pass_is;
+  reached_is = says.reached_is;
   accepted = says.accepted;
   polled = says.polled;
   begun = says.begun;
@@ -251,9 +280,11 @@ says_stale_verdict past p e s (Failed why) t entry says = record {
   end_is = says.end_is;
   losses_are = says.losses_are;
   few_losses = says.few_losses;
-  none_missed = says.none_missed;
-  none_reached = says.none_reached;
+  missed_are = says.missed_are;
+  few_missed = says.few_missed;
+  no_pass = says.no_pass;
   pass_is = says.pass_is;
+  reached_is = says.reached_is;
   accepted = says.accepted;
   polled = says.polled;
   begun = says.begun;
@@ -264,9 +295,11 @@ says_stale_verdict past p e s (Invalid why) t entry says = record {
   end_is = says.end_is;
   losses_are = says.losses_are;
   few_losses = says.few_losses;
-  none_missed = says.none_missed;
-  none_reached = says.none_reached;
+  missed_are = says.missed_are;
+  few_missed = says.few_missed;
+  no_pass = says.no_pass;
   pass_is = says.pass_is;
+  reached_is = says.reached_is;
   accepted = says.accepted;
   polled = says.polled;
   begun = says.begun;
@@ -280,9 +313,11 @@ says_stale_restart past p e s t entry says = record {
   end_is = says.end_is;
   losses_are = says.losses_are;
   few_losses = says.few_losses;
-  none_missed = says.none_missed;
-  none_reached = says.none_reached;
+  missed_are = says.missed_are;
+  few_missed = says.few_missed;
+  no_pass = says.no_pass;
   pass_is = says.pass_is;
+  reached_is = says.reached_is;
   accepted = says.accepted;
   polled = says.polled;
   begun = says.begun;
@@ -320,9 +355,11 @@ says_lost past p w t entry says live =
           ∙ ap (λ (o : Option Op). cond (eqb (entry.losses + 1) 5) (Some StateFailed) o) (sym live ∙ says.end_is);
       losses_are = more;
       few_losses = omega (arith, few);
-      none_missed = says.none_missed;
-      none_reached = says.none_reached;
+      missed_are = says.missed_are;
+      few_missed = says.few_missed;
+      no_pass = says.no_pass;
       pass_is = says.pass_is;
+      reached_is = says.reached_is;
       accepted = says.accepted;
       polled = says.polled;
       begun = says.begun;
@@ -337,9 +374,158 @@ says_stale_loss past p w t entry says = record {
   end_is = says.end_is;
   losses_are = says.losses_are;
   few_losses = says.few_losses;
-  none_missed = says.none_missed;
-  none_reached = says.none_reached;
+  missed_are = says.missed_are;
+  few_missed = says.few_missed;
+  no_pass = says.no_pass;
   pass_is = says.pass_is;
+  reached_is = says.reached_is;
+  accepted = says.accepted;
+  polled = says.polled;
+  begun = says.begun;
+}
+
+-- ---- a release, and its settlement
+pub says_released : (past : Past) (n : ℕ) (a : List ℕ) (g p : ℕ) (t : TermsFields) (entry : Entry) → Says past t entry → Says (Release n a g p ∷ past) t (handed n entry)
+unfolding HasAccepted
+says_released past n a g p t entry says = record {
+  terms_are = says.terms_are;
+  v_is = says.v_is;
+  end_is = says.end_is;
+  losses_are = says.losses_are;
+  few_losses = says.few_losses;
+  missed_are = says.missed_are;
+  few_missed = says.few_missed;
+  no_pass = says.no_pass;
+  pass_is = says.pass_is;
+  reached_is = says.reached_is;
+  accepted = says.accepted;
+  polled = says.polled;
+  begun = says.begun;
+}
+
+-- what is kept says whether V has reached the boot of the last pass, once a release arrived
+abbrev pub NowReached : Past → ℕ → Bool → Entry → Type 0
+NowReached past n hit entry = (c : Bool) (k : Passed) → entry.pass ≡ Some k → Tells (entry.reached || hit) (HasReached (Settled n Arrived c ∷ past) k.boot)
+
+-- a delivery that is not current, or was withdrawn, counts for nothing but that it may have arrived
+pub says_settled_late : (past : Past) (n : ℕ) (o : Outcome) (hit : Bool) (t : TermsFields) (entry : Entry) → NowReached past n hit entry → Says past t entry
+    → Says (Settled n o false ∷ past) t (settled o false hit entry)
+unfolding HasAccepted
+says_settled_late past n Arrived hit t entry now says = record {
+  terms_are = says.terms_are;
+  v_is = says.v_is;
+  end_is = says.end_is;
+  losses_are = says.losses_are;
+  few_losses = says.few_losses;
+  missed_are = says.missed_are;
+  few_missed = says.few_missed;
+  no_pass = says.no_pass;
+  pass_is = says.pass_is;
+  reached_is = now false;
+  accepted = says.accepted;
+  polled = says.polled;
+  begun = says.begun;
+}
+says_settled_late past n Missed hit t entry now says = record {
+  terms_are = says.terms_are;
+  v_is = says.v_is;
+  end_is = says.end_is;
+  losses_are = says.losses_are;
+  few_losses = says.few_losses;
+  missed_are = says.missed_are;
+  few_missed = says.few_missed;
+  no_pass = says.no_pass;
+  pass_is = says.pass_is;
+  reached_is = says.reached_is;
+  accepted = says.accepted;
+  polled = says.polled;
+  begun = says.begun;
+}
+says_settled_late past n (Withdrawn w) hit t entry now says = record {
+  terms_are = says.terms_are;
+  v_is = says.v_is;
+  end_is = says.end_is;
+  losses_are = says.losses_are;
+  few_losses = says.few_losses;
+  missed_are = says.missed_are;
+  few_missed = says.few_missed;
+  no_pass = says.no_pass;
+  pass_is = says.pass_is;
+  reached_is = says.reached_is;
+  accepted = says.accepted;
+  polled = says.polled;
+  begun = says.begun;
+}
+
+lacking : (f m : Bool) → f ≡ false → (f || (false || m)) ≡ m
+lacking true m no_f = cc
+lacking false m no_f = refl
+
+arrived_end : (past : Past) (n : ℕ) → Going past → ended (Settled n Arrived true ∷ past) ≡ None
+arrived_end past n g = still_none _ _ (came is_failed past || (eqb (losses past) 5 || false)) g.stop g.invalid (or_none _ _ g.failed (or_none _ _ g.losing refl))
+
+missed_end : (past : Past) (n : ℕ) → Going past → ended (Settled n Missed true ∷ past) ≡ cond (eqb (suc (missed past)) 5) (Some StateFailed) None
+missed_end past n g =
+    cond-false (came is_stop past) _ _ g.stop
+    ∙ cond-false (came is_invalid past) _ _ g.invalid
+    ∙ ap (λ b. cond (came is_failed past || (b || eqb (suc (missed past)) 5)) (Some StateFailed) None) g.losing
+    ∙ ap (λ b. cond b (Some StateFailed) None) (lacking (came is_failed past) (eqb (suc (missed past)) 5) g.failed)
+
+few_missed_live : (past : Past) (t : TermsFields) (e : Entry) → Says past t e → ended past ≡ None → e.missed < 5
+few_missed_live past t e says live =
+    let not_five : ¬ (e.missed ≡ 5) = λ five. both_ways (eqb (missed past) 5) (going past live).missing (eq-eqb (missed past) 5 (says.missed_are ∙ five)) in
+    omega (arith, says.few_missed, not_five)
+
+pub says_settled : (past : Past) (n : ℕ) (o : Outcome) (hit : Bool) (t : TermsFields) (entry : Entry) → NowReached past n hit entry → Says past t entry → ended past ≡ None
+    → Says (Settled n o true ∷ past) t (settled o true hit entry)
+unfolding HasAccepted
+says_settled past n Arrived hit t entry now says live = record {
+  terms_are = says.terms_are;
+  v_is = says.v_is;
+  end_is = arrived_end past n (going past live) ∙ sym live ∙ says.end_is;
+  losses_are = says.losses_are;
+  few_losses = says.few_losses;
+  missed_are = refl;
+  few_missed = omega arith;
+  no_pass = says.no_pass;
+  pass_is = says.pass_is;
+  reached_is = now true;
+  accepted = says.accepted;
+  polled = says.polled;
+  begun = says.begun;
+}
+says_settled past n Missed hit t entry now says live =
+    let few = few_missed_live past t entry says live in
+    let more : suc (missed past) ≡ entry.missed + 1 = omega (arith, says.missed_are) in
+    record {
+      terms_are = says.terms_are;
+      v_is = says.v_is;
+      end_is =
+          missed_end past n (going past live)
+          ∙ ap (λ n. cond (eqb n 5) (Some StateFailed) None) more
+          ∙ ap (λ (o : Option Op). cond (eqb (entry.missed + 1) 5) (Some StateFailed) o) (sym live ∙ says.end_is);
+      losses_are = says.losses_are;
+      few_losses = says.few_losses;
+      missed_are = more;
+      few_missed = omega (arith, few);
+      no_pass = says.no_pass;
+      pass_is = says.pass_is;
+      reached_is = says.reached_is;
+      accepted = says.accepted;
+      polled = says.polled;
+      begun = says.begun;
+    }
+says_settled past n (Withdrawn w) hit t entry now says live = record {
+  terms_are = says.terms_are;
+  v_is = says.v_is;
+  end_is = says.end_is;
+  losses_are = says.losses_are;
+  few_losses = says.few_losses;
+  missed_are = says.missed_are;
+  few_missed = says.few_missed;
+  no_pass = says.no_pass;
+  pass_is = says.pass_is;
+  reached_is = says.reached_is;
   accepted = says.accepted;
   polled = says.polled;
   begun = says.begun;

@@ -1,16 +1,20 @@
 -- The state of an agent is what is kept of it says.
-use Rattle.std.proofs.Common.{◌≡◌, ℕ, ◌+◌, Bool, true, false, cond, ◌&&◌, ◌||◌, List, Option, Some, None, inl, inr, refl, ap, sym, ◌∙◌, subst}
+use Rattle.std.proofs.Common.{◌≡◌, ℕ, ◌+◌, Bool, true, false, cond, not, ◌&&◌, ◌||◌, List, Option, Some, None, inl, inr, refl, ap, sym, ◌∙◌, subst}
 use Rattle.std.specs.Prelude.{is_some, is_none, IsSome}
 use Rattle.std.specs.Option.{option_map, option_map_or}
 use Rattle.std.proofs.lemmas.Bool.{cond-true, eqb-true, eq-eqb, and_parts, both_ways}
-use Rattle.std.proofs.lemmas.Option.{same_Some}
+use Rattle.std.proofs.lemmas.Option.{same_Some, none-some}
 use lib.Dec.{eqb}
 use Rattle.kl_states.specs.declared.op.Op.{Op}
-use Rattle.kl_states.specs.declared.op.Op.TheVariants.{Start, GetQuote, GetQuoteRetry, ProvideV}
+use Rattle.kl_states.specs.declared.op.Op.TheVariants.{Start, GetQuote, GetQuoteRetry, ProvideV, ProvideVRetry}
 use Rattle.kl_appraise.specs.Terms.{TermsFields}
+use Rattle.kl_appraise.specs.declared.judged.Boot.{Boot}
+use Rattle.kl_history.proofs.OneStanding.{boot_same}
+use Rattle.kl_history.specs.Accepted.{SignsBoot}
+use Rattle.kl_core.specs.declared.entry.Passed.{Passed}
 use Rattle.kl_history.specs.Records.{History, Past, own, is_open, polls}
 use Rattle.kl_history.specs.LookBacks.{Installed, installed, losses, Passing, last_pass}
-use Rattle.kl_history.specs.States.{ended, is_current, is_live, IsDue, IsLiveOp, IsOp, HasOp}
+use Rattle.kl_history.specs.States.{ended, is_current, is_live, IsDue, IsLiveOp, IsOp, HasOp, HasReached}
 use Rattle.kl_history.specs.Legal.{IsBusy, HasRoom, HasBytes}
 use Rattle.kl_core.specs.declared.entry.Entry.{Entry}
 use Rattle.kl_core.specs.States.{IsState}
@@ -19,34 +23,57 @@ use Rattle.kl_core.specs.declared.refusal.Refusal.{Refusal}
 use Rattle.kl_core.specs.declared.refusal.Refusal.TheVariants.{NoAgent, Exists, AgentsFull, WrongState, Busy, NoPoll, NoRelease, JournalRecords, JournalBytes, Memory}
 use Rattle.kl_core.specs.Begins.{IsPolled, MayPoll, RefusesBegin, Begins}
 use Rattle.kl_core.specs.Inner.Keeping.{Says, IsEntry, HasEntry, IsOpening, HasOpening, terms_at}
-use Rattle.kl_core.specs.Inner.Steps.{latest_poll, live_op, op_of, Lacks}
+use Rattle.kl_core.specs.Inner.Steps.{is_due, latest_poll, live_op, op_of, Lacks}
 
-passing : (o : Option Passing) → is_some (option_map (λ (p : Passing). p.poll) o) ≡ true → (p : Passing) × (o ≡ Some p)
-passing (Some p) is = (p, refl)
-passing None is = cc
+some_pass : (o : Option Passed) → is_some o ≡ true → (k : Passed) × (o ≡ Some k)
+some_pass (Some k) is = (k, refl)
+some_pass None is = cc
 
-due : (past : Past) (t : TermsFields) (e : Entry) → Says past t e → (e.has_v && is_some e.pass) ≡ true → IsDue past
-due past t e says both =
-    let parts = and_parts e.has_v (is_some e.pass) both in
-    let pass = passing (last_pass past) (ap is_some says.pass_is ∙ parts.1) in
+-- the pass of an agent to which V is due
+pub pass_due : (e : Entry) → is_due e ≡ true → (k : Passed) × (e.pass ≡ Some k)
+pass_due e is = some_pass e.pass (and_parts (is_some e.pass) (not e.reached) (and_parts e.has_v (is_some e.pass && not e.reached) is).1).0
+
+not_so : (b : Bool) → not b ≡ true → b ≡ false
+not_so false is = refl
+not_so true is = cc
+
+pub due : (past : Past) (t : TermsFields) (e : Entry) → Says past t e → is_due e ≡ true → IsDue past
+due past t e says is =
+    let parts = and_parts e.has_v (is_some e.pass && not e.reached) is in
+    let k = some_pass e.pass (and_parts (is_some e.pass) (not e.reached) parts.1).0 in
+    let passed = says.pass_is k.0 k.1 in
     record {
       with = record { generation = e.generation; terms = t };
       installed = says.terms_are;
       has_v = says.v_is ∙ parts.0;
-      pass = pass.0;
-      passed = pass.1;
-      unreached = λ boot signs. says.none_reached boot;
+      pass = passed.0;
+      passed = passed.1;
+      unreached = λ boot signs has.
+          (says.reached_is k.0 k.1).1 (not_so e.reached (and_parts (is_some e.pass) (not e.reached) parts.1).1)
+          (subst (λ (b : Boot). HasReached past b) (boot_same passed.0.evidence boot k.0.boot signs passed.3) has);
     }
 
-not_due : (past : Past) (t : TermsFields) (e : Entry) → Says past t e → (e.has_v && is_some e.pass) ≡ false → ¬ (IsDue past)
-not_due past t e says none d =
-    let P : Installed → Type 0 = λ i. IsSome i.terms.v in
-    let v : e.has_v ≡ true = sym says.v_is ∙ (subst P (sym (same_Some _ _ (sym says.terms_are ∙ d.installed))) d.has_v) in
-    let pass : is_some e.pass ≡ true = ap is_some (sym says.pass_is ∙ ap (λ o. option_map (λ (p : Passing). p.poll) o) d.passed) in
-    both_ways (e.has_v && is_some e.pass) none (ap (λ b. b && is_some e.pass) v ∙ pass)
+not_due : (past : Past) (t : TermsFields) (e : Entry) → Says past t e → is_due e ≡ false → ¬ (IsDue past)
+not_due past t e says none d = by_pass e.pass refl where
+  v : e.has_v ≡ true
+  v = let P : Installed → Type 0 = λ i. IsSome i.terms.v in
+      sym says.v_is ∙ (subst P (sym (same_Some _ _ (sym says.terms_are ∙ d.installed))) d.has_v)
+
+  by_reached : (k : Passed) → e.pass ≡ Some k → (b : Bool) → e.reached ≡ b → ⊥
+  by_reached k is true reached =
+      let passed = says.pass_is k is in
+      let same = same_Some _ _ (sym passed.1 ∙ d.passed) in
+      d.unreached k.boot (subst (λ (x : Passing). SignsBoot x.evidence k.boot) same passed.3) ((says.reached_is k is).0 reached)
+  by_reached k is false unreached =
+      both_ways (is_due e) none
+      (ap (λ b. b && (is_some e.pass && not e.reached)) v ∙ ap (λ (o : Option Passed). is_some o && not e.reached) is ∙ ap not unreached)
+
+  by_pass : (o : Option Passed) → e.pass ≡ o → ⊥
+  by_pass None is = none-some d.pass (sym (says.no_pass is) ∙ d.passed)
+  by_pass (Some k) is = by_reached k is e.reached refl
 
 live_stands : (past : Past) (t : TermsFields) (e : Entry) → Says past t e → IsLiveOp past (live_op e)
-live_stands past t e says = by_due (e.has_v && is_some e.pass) refl where
+live_stands past t e says = by_due (is_due e) refl where
   by_latest : (b : Bool) → is_some e.latest ≡ b → ¬ (IsDue past) → losses past ≡ 0 → IsLiveOp past (cond b GetQuote Start)
   by_latest true is none no_loss = (none, no_loss, says.polled ∙ is)
   by_latest false is none no_loss = (none, no_loss, says.polled ∙ is)
@@ -55,8 +82,12 @@ live_stands past t e says = by_due (e.has_v && is_some e.pass) refl where
   by_losses true is none = by_latest (is_some e.latest) refl none (says.losses_are ∙ eqb-true e.losses 0 is)
   by_losses false is none = (none, λ zero. both_ways (eqb e.losses 0) is (eq-eqb e.losses 0 (sym says.losses_are ∙ zero)))
 
-  by_due : (b : Bool) → (e.has_v && is_some e.pass) ≡ b → IsLiveOp past (cond b ProvideV (cond (eqb e.losses 0) (cond (is_some e.latest) GetQuote Start) GetQuoteRetry))
-  by_due true is = (due past t e says is, says.none_missed)
+  by_missed : (b : Bool) → eqb e.missed 0 ≡ b → IsDue past → IsLiveOp past (cond b ProvideV ProvideVRetry)
+  by_missed true is d = (d, says.missed_are ∙ eqb-true e.missed 0 is)
+  by_missed false is d = (d, λ zero. both_ways (eqb e.missed 0) is (eq-eqb e.missed 0 (sym says.missed_are ∙ zero)))
+
+  by_due : (b : Bool) → is_due e ≡ b → IsLiveOp past (cond b (cond (eqb e.missed 0) ProvideV ProvideVRetry) (cond (eqb e.losses 0) (cond (is_some e.latest) GetQuote Start) GetQuoteRetry))
+  by_due true is = by_missed (eqb e.missed 0) refl (due past t e says is)
   by_due false is = by_losses (eqb e.losses 0) refl (not_due past t e says is)
 
 pub op_stands : (past : Past) (t : TermsFields) (e : Entry) → Says past t e → IsOp past (op_of e)

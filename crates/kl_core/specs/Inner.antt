@@ -4,3 +4,6 @@ pub mod Steps
 pub mod Closing
 pub mod Picking
 pub mod Failing
+pub mod Reached
+pub mod Handing
+pub mod Settling

@@ -5,6 +5,7 @@ pub mod Installs
 pub mod Endings
 pub mod Begins
 pub mod Closes
+pub mod Shares
 pub mod States
 pub mod Picks
 pub mod Delivering

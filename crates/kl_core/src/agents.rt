@@ -5,8 +5,9 @@ ghost use Rattle.std.specs.Option.{option_map};
 ghost use Rattle.std.specs.Ordering.{nat_cmp};
 ghost use Rattle.std.specs.Cmp.Lexicographic.{slice_cmp};
 ghost use Rattle.std.specs.BTreeMap.{get, btree_map_len, Updates, IsUnchanged};
-ghost use Rattle.kl_core.specs.Inner.Steps.{fresh, op_of, NotedIf};
+ghost use Rattle.kl_core.specs.Inner.Steps.{fresh, renewed, op_of, NotedIf};
 ghost use Rattle.kl_core.specs.Inner.Closing.{after_close};
+ghost use Rattle.kl_core.specs.Inner.Settling.{only_if};
 
 use crate::closing::Close;
 use crate::entry::Entry;
@@ -34,6 +35,34 @@ pub fn put_fresh(
     Ok(())
 }
 
+/// What is kept of an agent, None where nothing is.
+pub fn kept(agents: &BTreeMap<AgentId, Entry>, agent: &AgentId) -> Option<Entry>
+    ensures { result ≡ get (slice_cmp nat_cmp) agents.now agent.now }
+{
+    match agents.get(agent) {
+        Some(entry) => Some(*entry),
+        None => None,
+    }
+}
+
+/// What is kept of an agent that is kept.
+pub fn kept_at(agents: &BTreeMap<AgentId, Entry>, agent: &AgentId) -> Entry
+    requires { IsSome (get (slice_cmp nat_cmp) agents.now agent.now) }
+    ensures { get (slice_cmp nat_cmp) agents.now agent.now ≡ Some result }
+{
+    match kept(agents, agent) {
+        Some(entry) => entry,
+        None => unreachable!(),
+    }
+}
+
+/// What is kept of an agent, where this is so.
+pub fn kept_if(agents: &BTreeMap<AgentId, Entry>, agent: &AgentId, holds: bool) -> Option<Entry>
+    ensures { result ≡ only_if holds (get (slice_cmp nat_cmp) agents.now agent.now) }
+{
+    if holds { kept(agents, agent) } else { None }
+}
+
 /// Keeps an agent no longer.
 pub fn take_out(agents: &mut BTreeMap<AgentId, Entry>, agent: &AgentId)
     requires { IsSome (get (slice_cmp nat_cmp) agents.old agent.now) }
@@ -54,19 +83,19 @@ pub fn note(agents: &mut BTreeMap<AgentId, Entry>, agent: &AgentId, entry: Entry
     }
 }
 
-/// Keeps of an agent that is kept what a record at this place installs.
+/// Keeps of an agent of which this is kept what a record at this place installs.
 pub fn renew(
     agents: &mut BTreeMap<AgentId, Entry>,
     agent: &AgentId,
+    entry: &Entry,
     generation: u64,
     place: usize,
-    has_v: bool,
 )
     requires { IsSome (get (slice_cmp nat_cmp) agents.old agent.now) }
-    ensures updates { Updates (slice_cmp nat_cmp) agents.old agents.new agent.now (Some (fresh generation place has_v)) }
+    ensures updates { Updates (slice_cmp nat_cmp) agents.old agents.new agent.now (Some (renewed generation place entry.now)) }
     ensures len { btree_map_len agents.new ≡ btree_map_len agents.old }
 {
-    note(agents, agent, Entry::fresh(generation, place, has_v));
+    note(agents, agent, entry.renewed(generation, place));
 }
 
 /// Keeps this of an agent that is kept, where there is something new.
@@ -82,12 +111,18 @@ pub fn note_if(agents: &mut BTreeMap<AgentId, Entry>, agent: &AgentId, entry: Op
 }
 
 /// What is kept of an agent after a close, where that is current.
-pub fn closed_if(entry: Option<Entry>, poll: u64, by: &Close) -> Option<Entry>
+pub fn closed_if(
+    entry: Option<Entry>,
+    poll: u64,
+    place: usize,
+    reached: bool,
+    by: &Close,
+) -> Option<Entry>
     requires { IfSome entry (λ e. e.losses < 5) }
-    ensures { result ≡ option_map (after_close poll by.now) entry }
+    ensures { result ≡ option_map (after_close poll place reached by.now) entry }
 {
     match entry {
-        Some(entry) => Some(by.entry_after(poll, entry)),
+        Some(entry) => Some(by.entry_after(poll, place, reached, entry)),
         None => None,
     }
 }

@@ -1,6 +1,7 @@
 //! A history of its own, and what it says at each moment.
 
 mod closes;
+mod deliveries;
 mod endings;
 mod installs;
 mod polls;
@@ -8,18 +9,21 @@ mod polls;
 ghost use Rattle.std.specs.Prelude.{◌≡◌, ◌↔◌, ◌≤◌, ◌<◌, ◌+◌, [], ℕ, IsTrue, IfOk, IfErr, IfSome, Some, None, IsSome, is_some, length, slice_get};
 ghost use Rattle.std.specs.Option.{option_copied};
 ghost use Rattle.kl_history.specs.Records.{own, is_open};
+ghost use Rattle.std.specs.BTreeMap.{btree_map_len};
 ghost use Rattle.kl_history.specs.LookBacks.{installed};
 ghost use Rattle.kl_history.specs.States.{is_current};
 ghost use Rattle.kl_history.specs.Legal.{Legal, agents, HasRoom, HasBytes};
 ghost use Rattle.kl_core.specs.Books.{past, with_marks};
+ghost use Rattle.kl_core.specs.Endings.{IsLive};
 ghost use Rattle.kl_core.specs.States.{StateAnswers};
 ghost use Rattle.kl_core.specs.Picks.{PickAnswers};
 ghost use Rattle.kl_core.specs.Delivering.{NoticeAnswers, MarkAnswers, marks_of};
 ghost use Rattle.kl_core.specs.Inner.Keeping.{IsEntry, HasEntry, HasOpening, terms_at};
 ghost use Rattle.kl_core.specs.Inner.Steps.{IsBarred, Lacks};
 
-use crate::entry::{Entry, Opening};
+use crate::entry::{Entry, Handed, Opening};
 use crate::picking::first_due;
+use crate::reached::Target;
 use crate::refusal::Refusal;
 use kl_appraise::SharedTerms;
 use kl_history::Record;
@@ -30,7 +34,7 @@ use std::alloc::Global;
 use std::collections::BTreeMap;
 use std::marker::Model;
 
-/// The most records that a journal has, the end of each open poll among them.
+/// The most records that a journal has, the end of each open poll and release among them.
 const MOST_RECORDS: usize = 1_000_000;
 
 /// The most bytes that a journal weighs, the evidence of each open poll among them.
@@ -53,16 +57,21 @@ pub struct Book {
     begun: u64,
     weight: u64,
     outbox: Outbox,
+    releases: BTreeMap<u64, Handed>,
+    made: u64,
+    reached: BTreeMap<Target, bool>,
 }
 
 impl Model for Book {
     ghost use Rattle.std.specs.Prelude.{vec_capacity};
+    ghost use Rattle.std.specs.BTreeMap.{btree_map_len};
     ghost use Rattle.std.specs.Coded.{codes};
     ghost use Rattle.kl_policy.specs.Digests.{digest_map_code};
     ghost use Rattle.kl_history.specs.Records.{past_of};
     ghost use Rattle.kl_core.specs.Books.{BookFields};
     ghost use Rattle.kl_core.specs.Inner.Keeping.{IsBook};
     ghost use Rattle.kl_core.specs.Inner.Failing.{IsTold};
+    ghost use Rattle.kl_core.specs.Inner.Handing.{IsHanding};
 
     ghost Value = { BookFields };
 
@@ -71,8 +80,9 @@ impl Model for Book {
     ghost view = { λ b. record { history = b.records.items; marks = b.outbox.marks } };
 
     ghost invariant = { λ b.
-        IsBook b.records.items (past_of b.records.items) b.agents b.polls b.drawn b.begun b.weight (vec_capacity b.records)
-        × IsTold (past_of b.records.items) b.outbox b.polls };
+        IsBook b.records.items (past_of b.records.items) b.agents b.polls b.drawn b.begun b.weight (vec_capacity b.records) (btree_map_len b.releases)
+        × IsTold (past_of b.records.items) b.outbox b.polls (btree_map_len b.releases)
+        × IsHanding b.records.items (past_of b.records.items) b.agents b.releases b.reached b.drawn b.made };
 }
 
 impl Book {
@@ -92,6 +102,9 @@ impl Book {
             begun: 0,
             weight: 0,
             outbox: Outbox::new(alloc)?,
+            releases: BTreeMap::new(alloc),
+            made: 0,
+            reached: BTreeMap::new(alloc),
         })
     }
 
@@ -167,16 +180,15 @@ impl Book {
         }
     }
 
-    /// What is kept of a live agent.
-    fn live_entry(&self, agent: &AgentId) -> Result<Entry, Refusal>
-        ensures entry { IfOk result (λ e. IsEntry self.now.history (past self.now) agent.now e) }
-        ensures live { IfOk result (λ e. e.end ≡ None) }
+    /// Refuses an agent that is not installed, or not live.
+    fn check_live(&self, agent: &AgentId) -> Result<(), Refusal>
+        ensures live { IfOk result (λ _. IsLive (past self.now) agent.now) }
         ensures barred { IfErr result (λ why. IsBarred (past self.now) agent.now why) }
     {
         match self.entry(agent) {
             Some(entry) => match entry.end {
                 Some(op) => Err(Refusal::WrongState(op)),
-                None => Ok(entry),
+                None => Ok(()),
             },
             None => Err(Refusal::NoAgent),
         }
@@ -252,7 +264,7 @@ impl Book {
         requires { records ≤ 2 }
         ensures { IsTrue result ↔ HasRoom (past self.now) records }
     {
-        self.records.len() + self.polls.len() + records <= MOST_RECORDS
+        self.records.len() + ends(&self.polls, &self.releases) + records <= MOST_RECORDS
     }
 
     /// Whether the journal has room for so many bytes more.
@@ -276,4 +288,11 @@ impl Book {
             None
         }
     }
+}
+
+/// How many ends are to come: of open polls, and of releases that are not settled.
+fn ends(polls: &BTreeMap<u64, Opening>, releases: &BTreeMap<u64, Handed>) -> usize
+    ensures { result ≡ btree_map_len polls.now + btree_map_len releases.now }
+{
+    polls.len() + releases.len()
 }

@@ -6,11 +6,13 @@ use crate::book::Book;
 use crate::closed::Closed;
 use crate::desk::Desk;
 use crate::refusal::Refusal;
+use crate::settlement::Settlement;
+use crate::share::Share;
 use kl_appraise::Terms;
 use kl_incr::{Appraised, Ticket};
 use kl_notice::Notice;
 use kl_policy::Policy;
-use kl_states::{AgentId, DropWhy, LostWhy, Nonce, State};
+use kl_states::{AgentId, DropWhy, LostWhy, Nonce, Outcome, State};
 use std::alloc::Global;
 
 impl Desk for Book {
@@ -100,6 +102,28 @@ impl Desk for Book {
 
     fn drop_own(&mut self, ticket: Ticket, why: DropWhy) -> Result<Closed, (Refusal, Ticket)> {
         let answer = Book::drop_own(self, ticket, why);
+        let _len = self.len();
+        answer
+    }
+
+    fn release(&mut self, alloc: Global, agent: &AgentId) -> Result<Share, Refusal> {
+        let answer = Book::release(self, alloc, agent);
+        let _len = self.len();
+        answer
+    }
+
+    fn settle(&mut self, share: Share, outcome: Outcome) -> Result<Settlement, (Refusal, Share)> {
+        let answer = Book::settle(self, share, outcome);
+        let _len = self.len();
+        answer
+    }
+
+    fn settle_own(
+        &mut self,
+        share: Share,
+        outcome: Outcome,
+    ) -> Result<Settlement, (Refusal, Share)> {
+        let answer = Book::settle_own(self, share, outcome);
         let _len = self.len();
         answer
     }

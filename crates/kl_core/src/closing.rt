@@ -2,12 +2,12 @@
 
 ghost use Rattle.std.specs.Prelude.{◌≡◌, ◌≤◌, ◌<◌};
 ghost use Rattle.kl_quote.specs.Size.{total_bytes};
-ghost use Rattle.kl_appraise.specs.Kept.{from_of};
 ghost use Rattle.kl_core.specs.Closes.{closed_by, record_by};
-ghost use Rattle.kl_core.specs.Inner.Closing.{close_as, close_why, close_record, close_weight, after_close};
+ghost use Rattle.kl_core.specs.Inner.Closing.{close_as, close_why, close_record, close_weight, close_boot, after_close};
 
 use crate::closed::ClosedAs;
 use crate::entry::Entry;
+use kl_appraise::Boot;
 use kl_history::Record;
 use kl_incr::{Kept, Outcome as Finding};
 use kl_notice::FailWhy;
@@ -68,13 +68,29 @@ impl Close {
         }
     }
 
-    /// What is kept of an agent once it closed a poll that is current.
-    pub fn entry_after(&self, poll: u64, entry: Entry) -> Entry
-        requires { entry.losses < 5 }
-        ensures { result ≡ after_close poll self.now entry }
+    /// The boot that the quote of a pass signs.
+    pub fn boot(&self) -> Option<Boot>
+        ensures { result ≡ close_boot self.now }
     {
         match self {
-            Close::Found { finding, next, .. } => entry.found(poll, *finding, accepted_by(*next)),
+            Close::Found {
+                next: Some(kept),
+                ..
+            } => Some(kept.boot),
+            _ => None,
+        }
+    }
+
+    /// What is kept of an agent once it closed a poll that is current, whose record stands at this place; V has reached
+    /// the boot that a pass signs, or not.
+    pub fn entry_after(&self, poll: u64, place: usize, reached: bool, entry: Entry) -> Entry
+        requires { entry.losses < 5 }
+        ensures { result ≡ after_close poll place reached self.now entry }
+    {
+        match self {
+            Close::Found { finding, next, .. } => {
+                entry.found(poll, place, *finding, next, reached)
+            },
             Close::Lost(_) => entry.lost(),
             Close::Dropped(_) => entry,
         }
@@ -137,14 +153,4 @@ fn weight_of(evidence: &Evidence) -> u64
         + evidence.public.len()
         + evidence.quote.len()
         + evidence.list.len()) as u64
-}
-
-/// How many entries are accepted by what is kept of an accepted list.
-fn accepted_by(kept: Option<Kept>) -> u64
-    ensures { result ≡ from_of kept }
-{
-    match kept {
-        Some(kept) => kept.count,
-        None => 0,
-    }
 }

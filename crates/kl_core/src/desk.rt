@@ -7,17 +7,20 @@ ghost use Rattle.kl_core.specs.Installs.{Adds, add_makes, Replaces, replace_make
 ghost use Rattle.kl_core.specs.Endings.{Stops, stop_makes, Removes, remove_makes};
 ghost use Rattle.kl_core.specs.Begins.{BeginAnswers, begin_makes};
 ghost use Rattle.kl_core.specs.Closes.{OwnFinishes, Finishes, finish_makes, OwnLoses, Loses, lose_makes, OwnDrops, Drops, drop_makes};
+ghost use Rattle.kl_core.specs.Shares.{IsGivenShare, Releases, release_makes, OwnSettles, Settles, settle_makes};
 ghost use Rattle.kl_core.specs.States.{StateAnswers};
 ghost use Rattle.kl_core.specs.Picks.{PickAnswers};
 ghost use Rattle.kl_core.specs.Delivering.{NoticeAnswers, MarkAnswers, marks_of};
 
 use crate::closed::Closed;
 use crate::refusal::Refusal;
+use crate::settlement::Settlement;
+use crate::share::Share;
 use kl_appraise::Terms;
 use kl_incr::{Appraised, Ticket};
 use kl_notice::Notice;
 use kl_policy::Policy;
-use kl_states::{AgentId, DropWhy, LostWhy, Nonce, State};
+use kl_states::{AgentId, DropWhy, LostWhy, Nonce, Outcome, State};
 use std::alloc::Global;
 
 /// A desk, over a history of its own or over one that others add to as well.
@@ -128,6 +131,29 @@ pub trait Desk {
     fn drop_own(&mut self, ticket: Ticket, why: DropWhy) -> Result<Closed, (Refusal, Ticket)>
         requires given { IsGiven (past_of (told self.old).seen) ticket }
         ensures event { Calls (told self.old) (told self.new) (drop_makes ticket why result) (OwnDrops ticket why result) };
+
+    /// Releases V of an agent on its last pass.
+    ///
+    /// # Errors
+    /// `NoAgent`, `WrongState` where V is not owed to it, `Busy` where a release of it is not settled that was made since it was
+    /// added, `JournalRecords` or `Memory`.
+    fn release(&mut self, alloc: Global, agent: &AgentId) -> Result<Share, Refusal>
+        ensures event { Calls (told self.old) (told self.new) (release_makes result) (Releases agent.now result) };
+
+    /// Settles a release. It takes no memory.
+    ///
+    /// # Errors
+    /// `NoRelease` where the share is not the one that a release gave that is not settled, compared by value.
+    fn settle(&mut self, share: Share, outcome: Outcome) -> Result<Settlement, (Refusal, Share)>
+        ensures event { Calls (told self.old) (told self.new) (settle_makes share outcome result) (Settles share outcome result) };
+
+    /// [`settle`](Desk::settle) with a share that was given at this desk: nothing is compared.
+    ///
+    /// # Errors
+    /// `NoRelease` where the release is settled.
+    fn settle_own(&mut self, share: Share, outcome: Outcome) -> Result<Settlement, (Refusal, Share)>
+        requires given { IsGivenShare (past_of (told self.old).seen) share }
+        ensures event { Calls (told self.old) (told self.new) (settle_makes share outcome result) (OwnSettles share outcome result) };
 
     /// How an agent stands, None where no such agent is installed. It takes no memory.
     fn state(&mut self, agent: &AgentId) -> Option<State>

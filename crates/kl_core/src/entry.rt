@@ -1,15 +1,20 @@
 //! What a book keeps beside its records.
 
-ghost use Rattle.std.specs.Prelude.{◌≡◌, ◌*◌, ◌^◌, ◌<◌, min};
+ghost use Rattle.std.specs.Prelude.{◌≡◌, ◌*◌, ◌^◌, ◌<◌, ◌≤◌, min};
 ghost use Rattle.kl_history.specs.Notices.{has_failed};
-ghost use Rattle.kl_core.specs.Inner.Steps.{fresh, stopped, polled, lost, found, live_op, op_of};
+ghost use Rattle.kl_core.specs.Inner.Steps.{fresh, renewed, stopped, polled, lost, found, handed, is_handed, is_hit, settled, passed_by, is_due, live_op, op_of};
+ghost use Rattle.kl_appraise.specs.Kept.{from_of};
 ghost use Rattle.kl_core.specs.Inner.Picking.{due_of};
 
-use kl_incr::Outcome as Finding;
-use kl_states::{AgentId, Nonce, Op, Verdict};
+use kl_appraise::Boot;
+use kl_incr::{Kept, Outcome as Finding};
+use kl_states::{AgentId, Nonce, Op, Outcome, Verdict};
 
 /// With so many losses in a row an agent has failed.
 const FAILING_LOSSES: u64 = 5;
+
+/// With so many missed deliveries in a row an agent has failed.
+const FAILING_DELIVERIES: u64 = 5;
 
 /// How long an agent waits for its next poll where none was lost, in milliseconds; each loss doubles it.
 const FIRST_WAIT: u64 = 2_000;
@@ -27,12 +32,31 @@ pub struct Entry {
     pub end: Option<Op>,
     /// How many polls were lost in a row since the last finding.
     pub losses: u64,
-    /// The poll of the last finding, where that is a pass.
-    pub pass: Option<u64>,
+    /// The last finding, where that is a pass.
+    pub pass: Option<Passed>,
+    /// Whether V has reached the boot of that pass.
+    pub reached: bool,
     /// How many entries of its measurement list are accepted.
     pub accepted: u64,
     /// Its last poll, open or not.
     pub latest: Option<Begun>,
+    /// How many deliveries of V were missed in a row since the last that arrived.
+    pub missed: u64,
+    /// The generation with which it was added last.
+    pub added: u64,
+    /// Its last release since then, settled or not.
+    pub handed: Option<u64>,
+}
+
+/// A poll that passed.
+#[derive(Clone, Copy)]
+pub struct Passed {
+    /// Its number.
+    pub poll: u64,
+    /// The place of the record of its verdict.
+    pub place: usize,
+    /// The boot that its quote signs.
+    pub boot: Boot,
 }
 
 /// A poll that began.
@@ -57,6 +81,19 @@ pub struct Opening {
     pub place: usize,
 }
 
+/// What a release that is not settled was made with.
+#[derive(Clone, Copy)]
+pub struct Handed {
+    /// Whose release it is.
+    pub agent: AgentId,
+    /// The generation that was installed.
+    pub generation: u64,
+    /// The place of the record that installed the generation.
+    pub place: usize,
+    /// The pass that it was released on.
+    pub pass: Passed,
+}
+
 /// How long an agent waits for its next poll after so many losses in a row, in milliseconds.
 fn wait_after(losses: u64) -> u64
     ensures { result ≡ 2000 * 2 ^ min losses 5 }
@@ -65,7 +102,7 @@ fn wait_after(losses: u64) -> u64
 }
 
 impl Entry {
-    /// What is kept of an agent that a record at this place installs.
+    /// What is kept of an agent that a record at this place adds.
     pub fn fresh(generation: u64, place: usize, has_v: bool) -> Entry
         ensures { result ≡ fresh generation place has_v }
     {
@@ -76,9 +113,23 @@ impl Entry {
             end: None,
             losses: 0,
             pass: None,
+            reached: false,
             accepted: 0,
             latest: None,
+            missed: 0,
+            added: generation,
+            handed: None,
         }
+    }
+
+    /// What is kept of the agent once a record at this place installs it once more.
+    pub fn renewed(&self, generation: u64, place: usize) -> Entry
+        ensures { result ≡ renewed generation place self.now }
+    {
+        let mut entry = Entry::fresh(generation, place, self.has_v);
+        entry.added = self.added;
+        entry.handed = self.handed;
+        entry
     }
 
     /// The state of the agent.
@@ -91,11 +142,22 @@ impl Entry {
         }
     }
 
+    /// Whether V is due to the agent.
+    fn is_due(&self) -> bool
+        ensures { result ≡ is_due self.now }
+    {
+        self.has_v && self.pass.is_some() && !self.reached
+    }
+
     fn live_op(&self) -> Op
         ensures { result ≡ live_op self.now }
     {
-        if self.has_v && self.pass.is_some() {
-            Op::ProvideV
+        if self.is_due() {
+            if self.missed == 0 {
+                Op::ProvideV
+            } else {
+                Op::ProvideVRetry
+            }
         } else if self.losses != 0 {
             Op::GetQuoteRetry
         } else if self.latest.is_some() {
@@ -153,22 +215,106 @@ impl Entry {
         entry
     }
 
-    /// What is kept after a current finding of a poll; a pass accepts so many entries.
-    pub fn found(&self, poll: u64, finding: Finding, accepted: u64) -> Entry
-        ensures { result ≡ found poll finding accepted self.now }
+    /// What is kept after a current finding of a poll, whose record stands at this place; after a pass also what the
+    /// appraisal keeps of the accepted list, and whether V has reached its boot.
+    pub fn found(
+        &self,
+        poll: u64,
+        place: usize,
+        finding: Finding,
+        next: &Option<Kept>,
+        reached: bool,
+    ) -> Entry
+        ensures { result ≡ found poll place finding next.now reached self.now }
     {
         let mut entry = *self;
         entry.losses = 0;
         entry.pass = None;
         match finding {
             Finding::Verdict(Verdict::Pass(_)) => {
-                entry.pass = Some(poll);
-                entry.accepted = accepted;
+                entry.pass = passed_by(poll, place, next);
+                entry.accepted = accepted_by(next);
+                entry.reached = reached;
             },
             Finding::Verdict(Verdict::Failed(_)) => entry.end = Some(Op::Failed),
             Finding::Verdict(Verdict::Invalid(_)) => entry.end = Some(Op::InvalidQuote),
             Finding::Restart => entry.accepted = 0,
         }
         entry
+    }
+
+    /// What is kept once V was released to the agent.
+    pub fn handed(&self, number: u64) -> Entry
+        ensures { result ≡ handed number self.now }
+    {
+        let mut entry = *self;
+        entry.handed = Some(number);
+        entry
+    }
+
+    /// Whether a release is the agent's last since it was added.
+    pub fn is_handed(&self, number: u64) -> bool
+        ensures { result ≡ is_handed number self.now }
+    {
+        match self.handed {
+            Some(last) => last == number,
+            None => false,
+        }
+    }
+
+    /// Whether V, once this release of the agent arrives, has reached the boot of the last pass.
+    pub fn is_hit(&self, number: u64, handed: &Handed) -> bool
+        ensures { result ≡ is_hit number handed.now self.now }
+    {
+        match self.pass {
+            Some(pass) => self.is_handed(number) && pass.boot == handed.pass.boot,
+            None => false,
+        }
+    }
+
+    /// What is kept once a release of the agent was settled.
+    pub fn settled(&self, outcome: Outcome, current: bool, hit: bool) -> Entry
+        requires { self.now.missed ≤ 5 }
+        ensures { result ≡ settled outcome current hit self.now }
+    {
+        let mut entry = *self;
+        match outcome {
+            Outcome::Arrived => {
+                entry.missed = if current { 0 } else { entry.missed };
+                entry.reached = entry.reached || hit;
+            },
+            Outcome::Missed => if current {
+                entry.missed += 1;
+                if entry.missed == FAILING_DELIVERIES {
+                    entry.end = Some(Op::Failed);
+                }
+            },
+            Outcome::Withdrawn(_) => {},
+        }
+        entry
+    }
+}
+
+/// The pass of a poll, whose record stands at this place, by what is kept of the list that it accepts.
+fn passed_by(poll: u64, place: usize, next: &Option<Kept>) -> Option<Passed>
+    ensures { result ≡ passed_by poll place next.now }
+{
+    match next {
+        Some(kept) => Some(Passed {
+            poll,
+            place,
+            boot: kept.boot,
+        }),
+        None => None,
+    }
+}
+
+/// How many entries are accepted by what is kept of an accepted list.
+fn accepted_by(kept: &Option<Kept>) -> u64
+    ensures { result ≡ from_of kept.now }
+{
+    match kept {
+        Some(kept) => kept.count,
+        None => 0,
     }
 }

@@ -12,9 +12,14 @@ mod closing;
 mod desk;
 mod entry;
 mod failing;
+mod handings;
 mod openings;
 mod picking;
+mod reached;
 mod refusal;
+mod settlement;
+mod settling;
+mod share;
 #[cfg(test)]
 mod tests;
 
@@ -26,3 +31,5 @@ pub use kl_history::{InstallWhy, Record};
 pub use kl_incr::{Appraised, Kept, Outcome as Finding, Parts, Ticket};
 pub use kl_notice::{FailWhy, Notice};
 pub use refusal::Refusal;
+pub use settlement::Settlement;
+pub use share::Share;

@@ -15,7 +15,8 @@ pub enum Refusal {
     AgentsFull,
     /// The agent is in this state, in which the call is not lawful.
     WrongState(Op),
-    /// This poll of the agent is open, and was begun under the installed generation.
+    /// This poll of the agent is open, and was begun under the installed generation; or this release of it is not settled,
+    /// and was made since the agent was added last.
     Busy(u64),
     /// The poll of this number is not open, or the ticket is not the one that its begin gave.
     NoPoll(u64),

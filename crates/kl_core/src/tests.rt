@@ -1,6 +1,10 @@
 //! What no clause says: that calls are done with ample memory, up to the limits of a book.
 
-use crate::entry::{Entry, Opening};
+mod bytes;
+mod releases;
+
+use crate::entry::{Entry, Handed, Opening};
+use crate::reached::Target;
 use crate::*;
 use kl_appraise::{SharedTerms, Terms};
 use kl_bank::Bank;
@@ -40,6 +44,11 @@ fn policy(alloc: Global, text: &str) -> Result<Policy, Fail> {
 
 /// Terms of PCRs 10 and 16 with this policy.
 fn terms(alloc: Global, text: &str) -> Result<Terms, Fail> {
+    terms_with(alloc, text, None)
+}
+
+/// The same with this V.
+fn terms_with(alloc: Global, text: &str, v: Option<[u8; 32]>) -> Result<Terms, Fail> {
     let contact = String::from_str(alloc, "127.0.0.1:9002")?;
     match Terms::new(
         contact,
@@ -47,7 +56,7 @@ fn terms(alloc: Global, text: &str) -> Result<Terms, Fail> {
         0x10400,
         Vec::new(alloc),
         Vec::from_slice(alloc, b"k1")?,
-        None,
+        v,
         policy(alloc, text)?,
     ) {
         Ok(terms) => Ok(terms),
@@ -180,10 +189,12 @@ fn a_journal_takes_1000000_records(rt: HostRuntime) -> Result<(), Fail> {
 }
 
 #[test]
-fn agents_polls_and_records_have_the_sizes_that_bench_tells(rt: HostRuntime) -> Result<(), Fail> {
+fn what_is_kept_has_the_sizes_that_bench_tells(rt: HostRuntime) -> Result<(), Fail> {
     let agent = size_of::<AgentId>() + size_of::<Entry>();
     let poll = size_of::<u64>() + size_of::<Opening>();
-    assert_eq!(rt; (agent, poll, size_of::<Record>()), (152, 168, 184));
+    let release = size_of::<u64>() + size_of::<Handed>();
+    assert_eq!(rt; (agent, poll, size_of::<Record>()), (208, 168, 184));
+    assert_eq!(rt; (release, size_of::<Target>()), (120, 88));
     Ok(())
 }
 

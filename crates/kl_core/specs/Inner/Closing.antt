@@ -1,7 +1,9 @@
 -- What follows of what closes a poll.
 use Rattle.std.specs.Prelude.{ℕ, Bool, Option, Some, None}
 use Rattle.kl_quote.specs.Size.{total_bytes}
-use Rattle.kl_appraise.specs.Kept.{from_of}
+use Rattle.std.specs.Option.{option_map}
+use Rattle.kl_appraise.specs.declared.kept.Kept.{Kept}
+use Rattle.kl_appraise.specs.declared.judged.Boot.{Boot}
 use Rattle.kl_appraise.specs.declared.judged.Outcome.TheVariants as finding
 use Rattle.kl_notice.specs.declared.notice.FailWhy.{FailWhy}
 use Rattle.kl_notice.specs.declared.notice.FailWhy.TheVariants as failed_by
@@ -41,11 +43,18 @@ close_weight (Found e signed f next) = total_bytes e.bank e.public e.quote e.lis
 close_weight (Lost why) = 0
 close_weight (Dropped why) = 0
 
--- what is kept of an agent once it closed a poll that is current
-abbrev pub after_close : ℕ → Close → Entry → Entry
-after_close p (Found e signed f next) entry = found p f (from_of next) entry
-after_close p (Lost why) entry = lost entry
-after_close p (Dropped why) entry = entry
+-- the boot that the quote of a pass signs
+abbrev pub close_boot : Close → Option Boot
+close_boot (Found e signed f next) = option_map (λ (k : Kept). k.boot) next
+close_boot (Lost why) = None
+close_boot (Dropped why) = None
+
+-- What is kept of an agent once it closed a poll that is current, whose record stands at this place; V has reached the boot that
+-- a pass signs, or not.
+abbrev pub after_close : ℕ → ℕ → Bool → Close → Entry → Entry
+after_close p place reached (Found e signed f next) entry = found p place f next reached entry
+after_close p place reached (Lost why) entry = lost entry
+after_close p place reached (Dropped why) entry = entry
 
 -- what was found of evidence is what the rules say of it for this ticket
 abbrev pub IsCloseOf : TicketFields → Close → Type 0

@@ -1,5 +1,5 @@
 -- What a book keeps beside its records is what the records say.
-use Rattle.std.specs.Prelude.{◌≡◌, ℕ, ◌+◌, ◌≤◌, true, false, List, length, count_by, Option, None, Some, is_some, slice_get, option_and_then}
+use Rattle.std.specs.Prelude.{◌≡◌, ℕ, ◌+◌, ◌≤◌, Bool, true, false, List, length, count_by, Option, None, Some, is_some, slice_get, option_and_then}
 use Rattle.std.specs.List.{sum_by}
 use Rattle.std.specs.Option.{option_map}
 use Rattle.std.specs.Ordering.{nat_cmp}
@@ -11,14 +11,15 @@ use Rattle.kl_appraise.specs.Terms.{TermsFields}
 use Rattle.kl_incr.specs.Kept.{TicketFields}
 use Rattle.kl_history.specs.declared.record.Record.{Record}
 use Rattle.kl_history.specs.declared.record.Record.TheVariants.{Install}
-use Rattle.kl_history.specs.Records.{History, Past, own, Start, start_of, is_open, terms_of, is_begin, is_close, generations, polls, handings}
+use Rattle.kl_history.specs.Records.{History, Past, own, Start, start_of, is_open, terms_of, is_begin, is_close, is_settling, generations, polls, handings}
 use Rattle.kl_history.specs.LookBacks.{installed, came, losses, missed, Passing, last_pass}
-use Rattle.kl_history.specs.Accepted.{WasAccepted}
+use Rattle.kl_history.specs.Accepted.{SignsBoot, WasAccepted}
 use Rattle.kl_history.specs.States.{ended, HasReached}
 use Rattle.kl_history.specs.Legal.{is_add, is_remove, IsBusy, weight_of, Fits, IsLegalPast}
 use Rattle.kl_core.specs.declared.entry.Entry.{Entry}
 use Rattle.kl_core.specs.declared.entry.Begun.{Begun}
 use Rattle.kl_core.specs.declared.entry.Opening.{Opening}
+use Rattle.kl_core.specs.declared.entry.Passed.{Passed}
 use Rattle.kl_core.specs.States.{Accepted}
 use Rattle.kl_core.specs.Picks.{begun_at}
 use Rattle.kl_core.specs.Tickets.{IsGiven}
@@ -32,16 +33,26 @@ terms_by _ = None
 abbrev pub terms_at : History → ℕ → Option TermsFields
 terms_at H place = option_and_then terms_by (slice_get H place)
 
--- What an agent's own records say of it, since it was installed. No release was made, so no V was delivered.
+-- the test says whether it is so
+abbrev pub Tells : Bool → Type 0 → Type 0
+Tells b P = (b ≡ true → P) × (b ≡ false → P → ⊥)
+
+-- this is the last finding, a pass
+abbrev pub IsPassed : Past → Passed → Type 0
+IsPassed own_past k = (pass : Passing) × (last_pass own_past ≡ Some pass) × (pass.poll ≡ k.poll) × SignsBoot pass.evidence k.boot
+
+-- What an agent's own records say of it, since it was installed.
 pub record Says (own_past : Past) (t : TermsFields) (e : Entry) : Type 0 where
   pub terms_are : installed own_past ≡ Some (record { generation = e.generation; terms = t })
   pub v_is : is_some t.v ≡ e.has_v
   pub end_is : ended own_past ≡ e.end
   pub losses_are : losses own_past ≡ e.losses
   pub few_losses : e.losses ≤ 5
-  pub none_missed : missed own_past ≡ 0
-  pub none_reached : (boot : Boot) → ¬ (HasReached own_past boot)
-  pub pass_is : option_map (λ (p : Passing). p.poll) (last_pass own_past) ≡ e.pass
+  pub missed_are : missed own_past ≡ e.missed
+  pub few_missed : e.missed ≤ 5
+  pub no_pass : e.pass ≡ None → last_pass own_past ≡ None
+  pub pass_is : (k : Passed) → e.pass ≡ Some k → IsPassed own_past k
+  pub reached_is : (k : Passed) → e.pass ≡ Some k → Tells e.reached (HasReached own_past k.boot)
   pub accepted : Accepted own_past e.accepted
   pub polled : came is_begin own_past ≡ is_some e.latest
   pub begun : begun_at own_past ≡ option_map (λ (b : Begun). b.at) e.latest
@@ -88,7 +99,7 @@ pub record Numbers (past : Past) : Type 0 where
   pub under_within : (q : ℕ) (s : Start) → start_of past q ≡ Some s → s.generation ≤ generations past
   pub named_within : (g : ℕ) (t : TermsFields) → terms_of past g ≡ Some t → g ≤ generations past
 
-pub record IsBook (H : History) (past : Past) (of_agents : BTreeMap (List ℕ) Entry) (of_polls : BTreeMap ℕ Opening) (drawn begun weighs capacity : ℕ) : Type 0 where
+pub record IsBook (H : History) (past : Past) (of_agents : BTreeMap (List ℕ) Entry) (of_polls : BTreeMap ℕ Opening) (drawn begun weighs capacity waiting : ℕ) : Type 0 where
   pub legal : IsLegalPast past
   pub fits : Fits past
   pub as_long : length past ≡ length H
@@ -99,8 +110,7 @@ pub record IsBook (H : History) (past : Past) (of_agents : BTreeMap (List ℕ) E
   pub begun_is : begun ≡ polls past
   pub agents_counted : btree_map_len of_agents + count_by is_remove past ≡ count_by is_add past
   pub polls_counted : btree_map_len of_polls + count_by is_close past ≡ polls past
-  -- no release was made
-  pub unreleased : handings past ≡ 0
+  pub releases_counted : waiting + count_by is_settling past ≡ handings past
   pub weighs_is : weighs ≡ sum_by weight_of past
-  -- each open poll has room for its close
-  pub room : length H + btree_map_len of_polls ≤ capacity
+  -- each open poll has room for its close, and each release that waits for its settlement
+  pub room : length H + btree_map_len of_polls + waiting ≤ capacity

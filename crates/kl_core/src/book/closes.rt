@@ -8,7 +8,7 @@ ghost use Rattle.kl_core.specs.Closes.{IsClosed, closed_by, found_record, OwnFin
 ghost use Rattle.kl_core.specs.Inner.Closing.{close_as, close_record, IsCloseOf};
 
 use super::Book;
-use crate::agents::{closed_if, note_if, op_now};
+use crate::agents::{closed_if, kept_if, note_if, op_now};
 use crate::closed::Closed;
 use crate::closing::Close;
 use crate::failing::post_if;
@@ -27,10 +27,13 @@ impl Book {
         ensures history { self.new ≡ with_more (close_record ticket.poll by result.current ∷ []) self.old }
     {
         let (poll, agent) = (ticket.poll(), ticket.agent());
-        let entry = self.current_entry(&agent, ticket.generation());
+        let current = self.current_entry(&agent, ticket.generation()).is_some();
         ticket.discard();
-        let (current, as_what) = (entry.is_some(), by.as_what());
-        let noted = closed_if(entry, poll, &by);
+        let as_what = by.as_what();
+        let entry = kept_if(&self.agents, &agent, current);
+        let place = self.records.len();
+        let reached = self.reaches(&agent, by.boot());
+        let noted = closed_if(entry, poll, place, reached, &by);
         note_if(&mut self.agents, &agent, noted);
         take_opening(&mut self.polls, poll);
         post_if(&mut self.outbox, agent, noted, by.why());

@@ -4,8 +4,8 @@ ghost use Rattle.std.specs.Prelude.{◌≡◌};
 ghost use Rattle.kl_core.specs.Books.{past, with_more};
 ghost use Rattle.kl_core.specs.Endings.{Stops, stop_makes, Removes, remove_makes};
 
-use super::Book;
-use crate::agents::{note, take_out};
+use super::{Book, ends};
+use crate::agents::{kept_at, note, take_out};
 use crate::refusal::Refusal;
 use kl_history::Record;
 use kl_states::AgentId;
@@ -19,14 +19,15 @@ impl Book {
         ensures answer { Stops agent.now result (past self.old) }
         ensures history { self.new ≡ with_more (stop_makes agent.now result (past self.old)) self.old }
     {
-        let entry = self.live_entry(agent)?;
+        self.check_live(agent)?;
         if !self.has_room(1) {
             return Err(Refusal::JournalRecords);
         }
-        match self.records.reserve(self.polls.len() + 1) {
+        match self.records.reserve(ends(&self.polls, &self.releases) + 1) {
             Ok(()) => {},
             Err(_) => return Err(Refusal::Memory),
         }
+        let entry = kept_at(&self.agents, agent);
         note(&mut self.agents, agent, entry.stopped());
         self.records.push_reserved(Record::Stop { agent: *agent });
         Ok(())
@@ -46,7 +47,7 @@ impl Book {
         if !self.has_room(1) {
             return Err(Refusal::JournalRecords);
         }
-        match self.records.reserve(self.polls.len() + 1) {
+        match self.records.reserve(ends(&self.polls, &self.releases) + 1) {
             Ok(()) => {},
             Err(_) => return Err(Refusal::Memory),
         }

@@ -4,12 +4,14 @@ ghost use Rattle.std.specs.Prelude.{◌≡◌, IfOk, IfErr, IfSome, IfNone, IsSo
 ghost use Rattle.std.specs.Option.{option_map};
 ghost use Rattle.kl_history.specs.declared.record.InstallWhy.TheVariants.{Add};
 ghost use Rattle.kl_core.specs.Books.{past, with_more};
+ghost use Rattle.kl_history.specs.Records.{own};
+ghost use Rattle.kl_history.specs.LookBacks.{installed};
 ghost use Rattle.kl_history.specs.Legal.{MayInstall, HasRoom, HasBytes};
 ghost use Rattle.kl_core.specs.Installs.{RefusesAdd, Adds, add_makes, RefusesReactivate, Reactivates, reactivate_makes, with_policy, RefusesReplace, Replaces, replace_makes};
 ghost use Rattle.kl_core.specs.Inner.Keeping.{IsEntry, terms_at};
 
-use super::{Book, MOST_AGENTS};
-use crate::agents::{put_fresh, renew, take_out};
+use super::{Book, MOST_AGENTS, ends};
+use crate::agents::{kept_at, put_fresh, renew, take_out};
 use crate::entry::Entry;
 use crate::refusal::Refusal;
 use kl_appraise::{SharedTerms, Terms};
@@ -52,7 +54,7 @@ impl Book {
             Some(why) => return Err((why, terms)),
             None => {},
         }
-        match self.records.reserve(self.polls.len() + 1) {
+        match self.records.reserve(ends(&self.polls, &self.releases) + 1) {
             Ok(()) => {},
             Err(_) => return Err((Refusal::Memory, terms)),
         }
@@ -81,19 +83,18 @@ impl Book {
         Ok(generation)
     }
 
-    /// What is kept of an agent that may be installed once more under the terms that it has.
-    fn may_reactivate(&self, agent: &AgentId) -> Result<Entry, Refusal>
-        ensures entry { IfOk result (λ e. IsEntry self.now.history (past self.now) agent.now e) }
+    /// Refuses an agent that may not be installed once more under the terms that it has.
+    fn check_reactivate(&self, agent: &AgentId) -> Result<(), Refusal>
+        ensures installed { IfOk result (λ _. IsSome (installed (own (past self.now) agent.now))) }
         ensures room { IfOk result (λ _. HasRoom (past self.now) 1) }
         ensures err { IfErr result (λ why. RefusesReactivate (past self.now) agent.now why) }
     {
-        match self.entry(agent) {
-            Some(entry) => if self.has_room(1) {
-                Ok(entry)
-            } else {
-                Err(Refusal::JournalRecords)
-            },
-            None => Err(Refusal::NoAgent),
+        if !self.has(agent) {
+            Err(Refusal::NoAgent)
+        } else if self.has_room(1) {
+            Ok(())
+        } else {
+            Err(Refusal::JournalRecords)
         }
     }
 
@@ -105,15 +106,16 @@ impl Book {
         ensures answer { Reactivates agent.now result (past self.old) }
         ensures history { self.new ≡ with_more (reactivate_makes agent.now result (past self.old)) self.old }
     {
-        let entry = self.may_reactivate(agent)?;
+        self.check_reactivate(agent)?;
+        let entry = kept_at(&self.agents, agent);
         let terms = self.share_terms(entry.place)?;
-        match self.records.reserve(self.polls.len() + 1) {
+        match self.records.reserve(ends(&self.polls, &self.releases) + 1) {
             Ok(()) => {},
             Err(_) => return Err(Refusal::Memory),
         }
         let generation = self.drawn + 1;
         let place = self.records.len();
-        renew(&mut self.agents, agent, generation, place, entry.has_v);
+        renew(&mut self.agents, agent, &entry, generation, place);
         self.drawn = generation;
         self.records.push_reserved(Record::Install {
             agent: *agent,
@@ -124,19 +126,19 @@ impl Book {
         Ok(generation)
     }
 
-    /// What is kept of an agent whose policy may be replaced.
-    fn may_replace(&self, agent: &AgentId, policy: &Policy) -> Result<Entry, Refusal>
-        ensures entry { IfOk result (λ e. IsEntry self.now.history (past self.now) agent.now e) }
+    /// Refuses an agent whose policy may not be replaced.
+    fn check_replace(&self, agent: &AgentId, policy: &Policy) -> Result<(), Refusal>
+        ensures installed { IfOk result (λ _. IsSome (installed (own (past self.now) agent.now))) }
         ensures room { IfOk result (λ _. HasRoom (past self.now) 1) }
         ensures bytes { IfOk result (λ _. HasBytes (past self.now) (length policy.now.source)) }
         ensures err { IfErr result (λ why. RefusesReplace (past self.now) agent.now policy.now why) }
     {
-        match self.entry(agent) {
-            Some(entry) => match self.lacks(1, policy.source().len() as u64) {
-                Some(why) => Err(why),
-                None => Ok(entry),
-            },
-            None => Err(Refusal::NoAgent),
+        if !self.has(agent) {
+            return Err(Refusal::NoAgent);
+        }
+        match self.lacks(1, policy.source().len() as u64) {
+            Some(why) => Err(why),
+            None => Ok(()),
         }
     }
 
@@ -171,11 +173,12 @@ impl Book {
         ensures answer { Replaces agent.now policy result (past self.old) }
         ensures history { self.new ≡ with_more (replace_makes agent.now policy result (past self.old)) self.old }
     {
-        let entry = match self.may_replace(agent, &policy) {
-            Ok(entry) => entry,
+        match self.check_replace(agent, &policy) {
+            Ok(()) => {},
             Err(why) => return Err((why, policy)),
-        };
-        match self.records.reserve(self.polls.len() + 1) {
+        }
+        let entry = kept_at(&self.agents, agent);
+        match self.records.reserve(ends(&self.polls, &self.releases) + 1) {
             Ok(()) => {},
             Err(_) => return Err((Refusal::Memory, policy)),
         }
@@ -186,7 +189,7 @@ impl Book {
         };
         let generation = self.drawn + 1;
         let place = self.records.len();
-        renew(&mut self.agents, agent, generation, place, entry.has_v);
+        renew(&mut self.agents, agent, &entry, generation, place);
         self.drawn = generation;
         self.weight += weight;
         self.records.push_reserved(Record::Install {

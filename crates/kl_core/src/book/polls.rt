@@ -4,12 +4,12 @@ ghost use Rattle.std.specs.Prelude.{◌≡◌, ℕ, true, false, IfOk, IfErr, If
 ghost use Rattle.kl_history.specs.Records.{own, is_open};
 ghost use Rattle.kl_history.specs.Legal.{IsBusy, HasRoom, HasBytes};
 ghost use Rattle.kl_core.specs.Books.{past, with_more};
-ghost use Rattle.kl_core.specs.Begins.{RefusesBegin, BeginAnswers, begin_makes};
+ghost use Rattle.kl_core.specs.Begins.{MayPoll, RefusesBegin, BeginAnswers, begin_makes};
 ghost use Rattle.kl_core.specs.Inner.Keeping.{IsEntry};
 ghost use Rattle.kl_core.specs.Inner.Steps.{latest_poll};
 
-use super::{Book, POLL_BYTES};
-use crate::agents::note;
+use super::{Book, POLL_BYTES, ends};
+use crate::agents::{kept_at, note};
 use crate::entry::{Entry, Opening};
 use crate::openings::put_opening;
 use crate::refusal::Refusal;
@@ -34,23 +34,22 @@ impl Book {
         }
     }
 
-    /// What is kept of an agent that may be polled.
-    fn may_begin(&self, agent: &AgentId) -> Result<Entry, Refusal>
-        ensures entry { IfOk result (λ e. IsEntry self.now.history (past self.now) agent.now e) }
-        ensures live { IfOk result (λ e. e.end ≡ None) }
-        ensures idle { IfOk result (λ e. (q : ℕ) → ¬ (IsBusy (past self.now) agent.now e.generation q)) }
+    /// Refuses an agent that may not be polled.
+    fn check_begin(&self, agent: &AgentId) -> Result<(), Refusal>
+        ensures may { IfOk result (λ _. MayPoll (past self.now) agent.now) }
         ensures room { IfOk result (λ _. HasRoom (past self.now) 2) }
         ensures bytes { IfOk result (λ _. HasBytes (past self.now) 16777216) }
         ensures err { IfErr result (λ why. RefusesBegin (past self.now) agent.now why) }
     {
-        let entry = self.live_entry(agent)?;
+        self.check_live(agent)?;
+        let entry = kept_at(&self.agents, agent);
         match self.open_latest(&entry) {
             Some(poll) => return Err(Refusal::Busy(poll)),
             None => {},
         }
         match self.lacks(2, POLL_BYTES) {
             Some(why) => Err(why),
-            None => Ok(entry),
+            None => Ok(()),
         }
     }
 
@@ -63,13 +62,14 @@ impl Book {
         ensures answer { BeginAnswers agent.now nonce now result (past self.old) }
         ensures history { self.new ≡ with_more (begin_makes now result (past self.old)) self.old }
     {
-        let entry = self.may_begin(agent)?;
+        self.check_begin(agent)?;
+        let entry = kept_at(&self.agents, agent);
         let terms = self.share_terms(entry.place)?;
-        match self.records.reserve(self.polls.len() + 2) {
+        match self.records.reserve(ends(&self.polls, &self.releases) + 2) {
             Ok(()) => {},
             Err(_) => return Err(Refusal::Memory),
         }
-        match self.outbox.reserve(self.polls.len() + 1) {
+        match self.outbox.reserve(ends(&self.polls, &self.releases) + 1) {
             Ok(()) => {},
             Err(_) => return Err(Refusal::Memory),
         }

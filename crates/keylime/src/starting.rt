@@ -32,6 +32,7 @@ A line of a script is a command, or is empty or begins with # and prints nothing
   lose <poll>                       state <agent>
   now <milliseconds>                pick
   notice                            noticed <number>
+  release <agent>                   settle <release> arrived|missed
   register <agent> <ek> <ak> <contact>
   activate <agent> <tag>            record <agent>
   records                           forget <agent>

@@ -11,7 +11,8 @@ use Rattle.kl_script.specs.Commands.{CommandFields, Spells}
 use Rattle.kl_script.proofs.Unique.{Spells-same}
 use Rattle.kl_session.specs.Outside.{Outside}
 use Rattle.kl_session.specs.Calls.{SessionFields, empty}
-use Rattle.kl_session.specs.Closing.{drops}
+use Rattle.kl_history.specs.Records.{past_of}
+use Rattle.kl_session.specs.Closing.{drops, withdraws}
 use Rattle.kl_session.specs.Session.{Does}
 use Rattle.kl_session.specs.declared.stop.Stop.TheVariants.{NoNonce}
 use Rattle.kl_session.specs.Stopped.{IsStopped}
@@ -221,7 +222,8 @@ module _ {script : List ℕ} {relations : Relations} {words : List ℕ} {status 
   lacked : (s : SessionFields) → IsBook s p.book → LacksNothing s.verifier.history
   lacked s is =
       let whole : LacksNothing p.book.history = record { legal = is.legal; ample = p.ample } in
-      lacked_nothing s.verifier.history (drops is.ended.0) (subst LacksNothing is.ended.2 whole)
+      lacked_nothing s.verifier.history (drops is.ended.polls)
+      (lacked_nothing (s.verifier.history ++ drops is.ended.polls) (withdraws (past_of s.verifier.history) is.ended.releases) (subst LacksNothing is.ended.parts whole))
 
   module _ {then : Outside} (s : Executed p.before.outside then) (on : GoesOn then p.after.outside) where
     going : GoesOn p.before.outside then

@@ -1,12 +1,13 @@
 -- The turns of a run, one after another.
-use Rattle.std.proofs.Common.{◌≡◌, ◌≤◌, ◌+◌, ℕ, zero, suc, List, [], ◌∷◌, ◌++◌, length, None, Result, Ok, Err, refl, sym, subst, ap, ◌∙◌, ◌⊎◌, inl, inr, arith, append_assoc, append-nil, length-append}
+use Rattle.std.proofs.Common.{◌≡◌, Bool, ◌≤◌, ◌+◌, ℕ, zero, suc, List, [], ◌∷◌, ◌++◌, length, None, Result, Ok, Err, refl, sym, subst, ap, ◌∙◌, ◌⊎◌, inl, inr, arith, append_assoc, append-nil, length-append}
 use Rattle.std.specs.Prelude.{Contains, ◌↔◌, true}
 use Rattle.std.specs.Io.KnownBytes.{Appends, Consumes, IsAtEnd}
 use Rattle.std.proofs.KnownBytes.{Appends-nil, Appends-trans, Consumes-nil, Consumes-trans}
 use Rattle.kl_io.specs.Calls.{n_more}
 use Rattle.kl_io.specs.Told.{SinkTold, SourceTold}
 use Rattle.kl_script.specs.Commands.{CommandFields, Spells}
-use Rattle.kl_history.specs.Records.{is_open}
+use Rattle.kl_history.specs.Records.{is_open, is_unsettled}
+use Rattle.kl_session.specs.Closing.{AreThose}
 use Rattle.kl_core.specs.Books.{BookFields}
 use Rattle.kl_session.specs.declared.stop.Stop.{Stop}
 use Rattle.kl_session.specs.declared.stop.Stop.TheVariants as stop
@@ -358,11 +359,21 @@ ends_at_once a s is = λ B book.
 abbrev none_open : List ℕ
 none_open = []
 
-none_contained : (p : ℕ) → Contains none_open p ↔ (is_open [] p ≡ true)
-none_contained p = (λ has. absurd (omega (arith, has.1)), λ is. absurd (cc))
+none_those : (is_so : ℕ → Bool) → ((n : ℕ) → ¬ (is_so n ≡ true)) → AreThose is_so none_open
+none_those is_so none = record { rising = tt; each = λ n. ((λ has. absurd (omega (arith, has.1))), (λ is. absurd (none n is))) }
 
 nothing_ended : IsBook empty (book_or_empty None)
-nothing_ended = record { ended = ([], record { rising = tt; each = none_contained }, refl); marks = refl; legal = tt }
+nothing_ended = record {
+  ended = record {
+    polls = none_open;
+    opened = none_those (is_open []) (λ n is. cc is);
+    releases = none_open;
+    unsettled = none_those (is_unsettled []) (λ n is. cc is);
+    parts = refl;
+  };
+  marks = refl;
+  legal = tt;
+}
 
 -- an end without a session
 pub ends_unbegun : (a : Moment) → EndsBy a a (book_or_empty None) Memory

@@ -32,8 +32,8 @@ pub record Ran (before after : Moment) (consumed written : List ℕ) (puts : ℕ
   pub wrote : Appends before.out.held after.out.held written
   pub put : after.out.calls.made ≡ count_after puts before.out.calls.made
 
--- the history at the end is legal, and it is that of the session, with the polls that were open dropped; its notices are delivered as
--- far as those of the session
+-- the history at the end is legal, and it is that of the session, with the polls that were open dropped and the releases that were open
+-- withdrawn; its notices are delivered as far as those of the session
 pub record IsBook (s : SessionFields) (B : BookFields) : Type 0 where
   pub ended : IsEnded s.verifier.history B.history
   pub marks : B.marks ≡ s.verifier.marks

@@ -29,7 +29,8 @@ pub fn is_only_word(words: &[String], word: &str) -> bool
 ///
 /// The words are `run`. The script is read line by line; each line is executed once its newline was read, or the
 /// script's end behind it, and what it prints is written by one put before the next line is executed. A line that
-/// prints nothing, as a comment, takes no put. Once the script ends, or the run, the polls that are open are dropped.
+/// prints nothing, as a comment, takes no put. Once the script ends, or the run, the polls that are open are dropped, and the
+/// releases that are open withdrawn.
 ///
 /// | number | where |
 /// |---|---|
@@ -98,8 +99,8 @@ pub fn run<S: Source, K: Sink, Y: Keys, P: PatternMaker, N: Words, L: Ledger>(
     status
 }
 
-/// The same, with the book as it is at the end, its open polls dropped; no book where the words are others, or where
-/// there was no memory for a session.
+/// The same, with the book as it is at the end, its open polls dropped and its open releases withdrawn; no book where the
+/// words are others, or where there was no memory for a session.
 pub fn run_kept<S: Source, K: Sink, Y: Keys, P: PatternMaker, N: Words, L: Ledger>(
     alloc: Global,
     words: &[String],

@@ -111,7 +111,7 @@ fn turns<S: Source, K: Sink, Y: Keys, P: PatternMaker, N: Words, L: Ledger>(
 }
 
 /// Plays a script in a session that begins with nothing. The answer is how the run ends, and the book of the session
-/// with the polls that were open dropped; no book where there was no memory for a session.
+/// with the polls that were open dropped and the releases withdrawn; no book where there was no memory for a session.
 pub fn play<S: Source, K: Sink, Y: Keys, P: PatternMaker, N: Words, L: Ledger>(
     alloc: Global,
     script: &mut S,

@@ -45,3 +45,6 @@ zero_is_none bs (suc n) e long number =
 -- no byte of a number is other than a digit
 pub decimal_has_no : (b n : ℕ) → n < 2 ^ 64 → 57 < b → HasNo b (decimal n)
 decimal_has_no b n lt past i inside e = omega (arith, e, (digit_at (decimal n) i (digits_decimal own n lt) inside).1)
+
+pub decimal_has_no_space : (n : ℕ) → n < 2 ^ 64 → HasNo 32 (decimal n)
+decimal_has_no_space n lt i inside e = omega (arith, e, (digit_at (decimal n) i (digits_decimal own n lt) inside).0)

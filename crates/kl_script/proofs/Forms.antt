@@ -7,8 +7,8 @@ use Rattle.std.proofs.lemmas.List.Sums.{AllPass-from_list_all}
 use Rattle.kl_script.specs.Words.{HasNo, IsNumber}
 use Rattle.kl_script.specs.declared.command.RegistrarCommand.{RegistrarCommand}
 use Rattle.kl_script.specs.declared.command.RegistrarCommand.TheVariants.{Register, Activate, Record, Records, Forget}
-use Rattle.kl_script.specs.Commands.{VerifierCommandFields, add, replace, reactivate, stop, remove, now, begin, reply, state, lose, pick, notice, noticed}
-use Rattle.kl_script.specs.Commands.{SpellsAdd, SpellsReplace, SpellsAgent, SpellsBegin, SpellsReply, SpellsRegister, SpellsActivate}
+use Rattle.kl_script.specs.Commands.{VerifierCommandFields, add, replace, reactivate, stop, remove, now, begin, reply, state, lose, pick, release, settle, notice, noticed}
+use Rattle.kl_script.specs.Commands.{SpellsAdd, SpellsReplace, SpellsAgent, SpellsBegin, SpellsReply, SpellsSettle, SpellsRegister, SpellsActivate}
 use Rattle.kl_script.specs.Commands.{IsBlank, IsNamed, HasVerifierForm, HasRegistrarForm}
 use Rattle.kl_script.proofs.Splitting.{heads, same_word, no_word}
 
@@ -25,6 +25,8 @@ name_of_verifier (reply r) = codes "reply"
 name_of_verifier (state a) = codes "state"
 name_of_verifier (lose p) = codes "lose"
 name_of_verifier pick = codes "pick"
+name_of_verifier (release a) = codes "release"
+name_of_verifier (settle s) = codes "settle"
 name_of_verifier notice = codes "notice"
 name_of_verifier (noticed n) = codes "noticed"
 
@@ -48,6 +50,8 @@ VerifierArguments arguments (reply r) = SpellsReply arguments r
 VerifierArguments arguments (state a) = SpellsAgent arguments a
 VerifierArguments arguments (lose p) = IsNumber arguments p
 VerifierArguments arguments pick = ⊥
+VerifierArguments arguments (release a) = SpellsAgent arguments a
+VerifierArguments arguments (settle s) = SpellsSettle arguments s
 VerifierArguments arguments notice = ⊥
 VerifierArguments arguments (noticed n) = IsNumber arguments n
 
@@ -251,6 +255,14 @@ pub is_lose : VerifierNames (codes "lose") (λ p. lose p) IsNumber
 is_lose arguments (lose p) e h = (p, refl, h)
 is_lose arguments said e h = other refl e
 
+pub is_release : VerifierNames (codes "release") (λ a. release a) SpellsAgent
+is_release arguments (release a) e h = (a, refl, h)
+is_release arguments said e h = other refl e
+
+pub is_settle : VerifierNames (codes "settle") (λ s. settle s) SpellsSettle
+is_settle arguments (settle s) e h = (s, refl, h)
+is_settle arguments said e h = other refl e
+
 pub is_noticed : VerifierNames (codes "noticed") (λ n. noticed n) IsNumber
 is_noticed arguments (noticed n) e h = (n, refl, h)
 is_noticed arguments said e h = other refl e
@@ -258,21 +270,23 @@ is_noticed arguments said e h = other refl e
 -- what is named so spells no command that has arguments
 pub no_verifier_name : {name : List ℕ} → name ≢ codes "add" → name ≢ codes "replace" → name ≢ codes "reactivate" → name ≢ codes "stop"
     → name ≢ codes "remove" → name ≢ codes "now" → name ≢ codes "begin" → name ≢ codes "reply" → name ≢ codes "state"
-    → name ≢ codes "lose" → name ≢ codes "noticed"
+    → name ≢ codes "lose" → name ≢ codes "release" → name ≢ codes "settle" → name ≢ codes "noticed"
     → (arguments : List ℕ) (said : VerifierCommandFields) → name ≡ name_of_verifier said → ¬ (VerifierArguments arguments said)
-no_verifier_name a b c d e f g h i j k arguments (add x) is s = a is
-no_verifier_name a b c d e f g h i j k arguments (replace x) is s = b is
-no_verifier_name a b c d e f g h i j k arguments (reactivate x) is s = c is
-no_verifier_name a b c d e f g h i j k arguments (stop x) is s = d is
-no_verifier_name a b c d e f g h i j k arguments (remove x) is s = e is
-no_verifier_name a b c d e f g h i j k arguments (now x) is s = f is
-no_verifier_name a b c d e f g h i j k arguments (begin x) is s = g is
-no_verifier_name a b c d e f g h i j k arguments (reply x) is s = h is
-no_verifier_name a b c d e f g h i j k arguments (state x) is s = i is
-no_verifier_name a b c d e f g h i j k arguments (lose x) is s = j is
-no_verifier_name a b c d e f g h i j k arguments pick is s = s
-no_verifier_name a b c d e f g h i j k arguments notice is s = s
-no_verifier_name a b c d e f g h i j k arguments (noticed x) is s = k is
+no_verifier_name a b c d e f g h i j k l m arguments (add x) is s = a is
+no_verifier_name a b c d e f g h i j k l m arguments (replace x) is s = b is
+no_verifier_name a b c d e f g h i j k l m arguments (reactivate x) is s = c is
+no_verifier_name a b c d e f g h i j k l m arguments (stop x) is s = d is
+no_verifier_name a b c d e f g h i j k l m arguments (remove x) is s = e is
+no_verifier_name a b c d e f g h i j k l m arguments (now x) is s = f is
+no_verifier_name a b c d e f g h i j k l m arguments (begin x) is s = g is
+no_verifier_name a b c d e f g h i j k l m arguments (reply x) is s = h is
+no_verifier_name a b c d e f g h i j k l m arguments (state x) is s = i is
+no_verifier_name a b c d e f g h i j k l m arguments (lose x) is s = j is
+no_verifier_name a b c d e f g h i j k l m arguments pick is s = s
+no_verifier_name a b c d e f g h i j k l m arguments (release x) is s = k is
+no_verifier_name a b c d e f g h i j k l m arguments (settle x) is s = l is
+no_verifier_name a b c d e f g h i j k l m arguments notice is s = s
+no_verifier_name a b c d e f g h i j k l m arguments (noticed x) is s = m is
 
 abbrev pub RegistrarNames : {X : Type 0} → List ℕ → (X → RegistrarCommand) → (List ℕ → X → Type 0) → Type 0
 RegistrarNames {X} name made Spelled =

@@ -7,6 +7,7 @@ pub mod Zips
 pub mod Faults
 pub mod Fixed
 pub mod Begins
+pub mod Settles
 pub mod Arguments
 pub mod Forms
 pub mod Unique

@@ -17,6 +17,7 @@ use Rattle.kl_script.specs.declared.command.Command.{Command}
 use Rattle.kl_script.specs.Words.{HasNo, IsEscaped, IsField, IsNumber}
 use Rattle.kl_script.specs.Digits.{IsKey, IsMask, IsShare}
 use Rattle.kl_script.specs.Statics.{IsStatics}
+use Rattle.kl_script.specs.Deliveries.{delivery_word}
 use Rattle.kl_script.specs.declared.command.Activate.{Activate}
 use Rattle.kl_script.specs.declared.command.Add.{Add}
 use Rattle.kl_script.specs.declared.command.Begin.{Begin}
@@ -24,9 +25,12 @@ use Rattle.kl_script.specs.declared.command.Register.{Register}
 use Rattle.kl_script.specs.declared.command.RegistrarCommand.{RegistrarCommand}
 use Rattle.kl_script.specs.declared.command.RegistrarCommand.TheVariants as registrar
 use Rattle.kl_script.specs.declared.command.Replace.{Replace}
+use Rattle.kl_script.specs.declared.command.Delivery.{Delivery}
+use Rattle.kl_script.specs.declared.command.Delivery.TheVariants.{Arrived, Missed}
+use Rattle.kl_script.specs.declared.command.Settle.{Settle}
 use Rattle.kl_script.specs.Commands.{ReplyFields, VerifierCommandFields, CommandFields, nothing, to_verifier, to_registrar, fields, kind_word}
-use Rattle.kl_script.specs.Commands.{add, replace, reactivate, stop, remove, now, begin, reply, state, lose, pick, notice, noticed}
-use Rattle.kl_script.specs.Commands.{SpellsActivate, SpellsAdd, SpellsBegin, SpellsRegister, SpellsReplace, SpellsReply}
+use Rattle.kl_script.specs.Commands.{add, replace, reactivate, stop, remove, now, begin, reply, state, lose, pick, release, settle, notice, noticed}
+use Rattle.kl_script.specs.Commands.{SpellsActivate, SpellsAdd, SpellsBegin, SpellsRegister, SpellsReplace, SpellsReply, SpellsSettle}
 use Rattle.kl_script.specs.Commands.{IsBlank, HasVerifierForm, HasRegistrarForm, HasForm, Spells, IsRead}
 use Rattle.kl_script.proofs.Splitting.{heads, tails, no_word, IsSplit-same}
 use Rattle.kl_script.proofs.Escapes.{IsEscaped-same}
@@ -35,9 +39,10 @@ use Rattle.kl_script.proofs.Fixed.{IsStatics-same}
 use Rattle.kl_script.proofs.Forms.{name_of_verifier, name_of_registrar, VerifierArguments, RegistrarArguments, apart}
 use Rattle.kl_script.proofs.Forms.{named_verifier, named_registrar, verifier_so, registrar_so, verifier_is_plain, registrar_is_plain}
 use Rattle.kl_script.proofs.Forms.{verifier_not_blank, registrar_not_blank, no_verifier_word, records_have_no_space, pick_has_no_space, notice_has_no_space, other}
-use Rattle.kl_script.proofs.Forms.{is_add, is_replace, is_reactivate, is_stop, is_remove, is_now, is_begin, is_reply, is_state, is_lose, is_noticed}
+use Rattle.kl_script.proofs.Forms.{is_add, is_replace, is_reactivate, is_stop, is_remove, is_now, is_begin, is_reply, is_state, is_lose, is_release, is_settle, is_noticed}
 use Rattle.kl_script.proofs.Forms.{is_register, is_activate, is_record, is_forget}
 use Rattle.kl_script.proofs.Begins.{agent_has_no_space, IsCut-same, cut_of}
+use Rattle.kl_script.proofs.Settles.{number_has_no_space, settle_cut}
 
 -- ---- a word spells one value
 
@@ -57,6 +62,12 @@ kind_word-same Flat Flat e = refl
 kind_word-same Json Json e = refl
 kind_word-same Flat Json e = absurd (omega (arith, ap (λ (t : List ℕ). get_or t 0 0) e))
 kind_word-same Json Flat e = absurd (omega (arith, ap (λ (t : List ℕ). get_or t 0 0) e))
+
+delivery_word-same : (a b : Delivery) → delivery_word a ≡ delivery_word b → a ≡ b
+delivery_word-same Arrived Arrived e = refl
+delivery_word-same Missed Missed e = refl
+delivery_word-same Arrived Missed e = absurd (omega (arith, ap length e))
+delivery_word-same Missed Arrived e = absurd (omega (arith, ap length e))
 
 IsMask-same : (written : List ℕ) (m n : ℕ) → IsMask written m → IsMask written n → m ≡ n
 IsMask-same written m n g h =
@@ -143,6 +154,15 @@ SpellsReply-same arguments a b s t =
     let whole : made a.poll a.bank a.start a.public a.quote a.list ≡ made b.poll b.bank b.start b.public b.quote b.list = cc in
     whole
 
+SpellsSettle-same : (arguments : List ℕ) (a b : Settle) → SpellsSettle arguments a → SpellsSettle arguments b → a ≡ b
+SpellsSettle-same arguments a b s t =
+    let same = settle_cut arguments t.number (delivery_word b.delivery) a t.split (number_has_no_space t.number b.number t.is_number) s in
+    let number : a.number ≡ b.number = IsNumber-same t.number a.number b.number same.0 t.is_number in
+    let delivery : a.delivery ≡ b.delivery = delivery_word-same a.delivery b.delivery (sym same.1) in
+    let made : ℕ → Delivery → Settle = λ number delivery. record { number = number; delivery = delivery } in
+    let whole : made a.number a.delivery ≡ made b.number b.delivery = cc (number, delivery) in
+    whole
+
 SpellsRegister-same : (arguments : List ℕ) (a b : Register) → SpellsRegister arguments a → SpellsRegister arguments b → a ≡ b
 SpellsRegister-same arguments a b s t =
     let expected : List (List ℕ) = a.agent ∷ s.ek ∷ s.ak ∷ [] in
@@ -183,6 +203,8 @@ same_verifier_arguments arguments (reply a) y e s t = let b = is_reply arguments
 same_verifier_arguments arguments (state a) y e s t = let b = is_state arguments y e t in ap (λ x. state x) (sym s.0 ∙ b.2.0) ∙ b.1
 same_verifier_arguments arguments (lose a) y e s t = let b = is_lose arguments y e t in ap (λ x. lose x) (IsNumber-same arguments a b.0 s b.2) ∙ b.1
 same_verifier_arguments arguments pick y e s t = absurd s
+same_verifier_arguments arguments (release a) y e s t = let b = is_release arguments y e t in ap (λ x. release x) (sym s.0 ∙ b.2.0) ∙ b.1
+same_verifier_arguments arguments (settle a) y e s t = let b = is_settle arguments y e t in ap (λ x. settle x) (SpellsSettle-same arguments a b.0 s b.2) ∙ b.1
 same_verifier_arguments arguments notice y e s t = absurd s
 same_verifier_arguments arguments (noticed a) y e s t = let b = is_noticed arguments y e t in ap (λ x. noticed x) (IsNumber-same arguments a b.0 s b.2) ∙ b.1
 

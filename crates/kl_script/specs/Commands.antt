@@ -18,9 +18,11 @@ use Rattle.kl_script.specs.declared.command.Begin.{Begin}
 use Rattle.kl_script.specs.declared.command.Register.{Register}
 use Rattle.kl_script.specs.declared.command.Replace.{Replace}
 use Rattle.kl_script.specs.declared.command.Reply.{Reply}
+use Rattle.kl_script.specs.declared.command.Settle.{Settle}
 use Rattle.kl_script.specs.Words.{IsSplit, IsEscaped, IsField, IsNumber}
 use Rattle.kl_script.specs.Digits.{IsKey, IsMask, IsShare}
 use Rattle.kl_script.specs.Statics.{IsStatics}
+use Rattle.kl_script.specs.Deliveries.{delivery_word}
 
 -- ---- what a command says
 
@@ -45,6 +47,8 @@ pub data VerifierCommandFields : Type 0 where
   state : List ℕ → VerifierCommandFields
   lose : ℕ → VerifierCommandFields
   pick : VerifierCommandFields
+  release : List ℕ → VerifierCommandFields
+  settle : Settle → VerifierCommandFields
   notice : VerifierCommandFields
   noticed : ℕ → VerifierCommandFields
 
@@ -76,6 +80,8 @@ verifier_fields (verifier_commands.Reply r) = reply (reply_fields r)
 verifier_fields (verifier_commands.State a) = state a
 verifier_fields (verifier_commands.Lose p) = lose p
 verifier_fields verifier_commands.Pick = pick
+verifier_fields (verifier_commands.Release a) = release a
+verifier_fields (verifier_commands.Settle s) = settle s
 verifier_fields verifier_commands.Notice = notice
 verifier_fields (verifier_commands.Noticed n) = noticed n
 
@@ -145,6 +151,12 @@ pub record SpellsReply (arguments : List ℕ) (said : ReplyFields) : Type 0 wher
   pub is_quote : IsField quote said.quote
   pub is_list : IsEscaped list said.list
 
+-- the number of the release, and the word for how its delivery ended
+pub record SpellsSettle (arguments : List ℕ) (said : Settle) : Type 0 where
+  pub number : List ℕ
+  pub split : arguments ≡ number ++ 32 ∷ delivery_word said.delivery
+  pub is_number : IsNumber number said.number
+
 -- the agent and its two keys, and its contact
 pub record SpellsRegister (arguments : List ℕ) (said : Register) : Type 0 where
   pub ek : List ℕ
@@ -185,6 +197,8 @@ HasVerifierForm line (reply r) = IsNamed line (codes "reply") (λ arguments. Spe
 HasVerifierForm line (state a) = IsNamed line (codes "state") (λ arguments. SpellsAgent arguments a)
 HasVerifierForm line (lose p) = IsNamed line (codes "lose") (λ arguments. IsNumber arguments p)
 HasVerifierForm line pick = line ≡ codes "pick"
+HasVerifierForm line (release a) = IsNamed line (codes "release") (λ arguments. SpellsAgent arguments a)
+HasVerifierForm line (settle s) = IsNamed line (codes "settle") (λ arguments. SpellsSettle arguments s)
 HasVerifierForm line notice = line ≡ codes "notice"
 HasVerifierForm line (noticed n) = IsNamed line (codes "noticed") (λ arguments. IsNumber arguments n)
 

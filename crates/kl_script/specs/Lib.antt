@@ -1,4 +1,5 @@
 pub mod Words
 pub mod Digits
 pub mod Statics
+pub mod Deliveries
 pub mod Commands

@@ -1,9 +1,12 @@
 //! The commands of a script.
 
+ghost use Rattle.std.specs.Prelude.{◌≡◌};
+ghost use Rattle.kl_script.specs.Deliveries.{outcome_of};
+
 use kl_bank::Bank;
 use kl_pcr::Statics;
 use kl_quote::Evidence;
-use kl_states::{AgentId, Blob, Nonce, PolicyKind, Text};
+use kl_states::{AgentId, Blob, Nonce, Outcome, PolicyKind, Text};
 
 /// What a line of a script asks for.
 #[derive(Drop)]
@@ -41,6 +44,10 @@ pub enum VerifierCommand {
     Lose(u64),
     /// Asks which agent is polled next: `pick`.
     Pick,
+    /// Hands V of an agent out: `release <agent>`.
+    Release(AgentId),
+    /// `settle`, see [`Settle`].
+    Settle(Settle),
     /// Asks for the first notice that is not delivered: `notice`.
     Notice,
     /// Says that the notice of this number is delivered: `noticed <number>`.
@@ -113,6 +120,36 @@ pub struct Reply {
     pub poll: u64,
     /// What the agent answered.
     pub evidence: Evidence,
+}
+
+/// Says how the delivery of V ended that a release handed out: `settle <number> <delivery>`.
+#[derive(Clone, Copy, Debug, PartialEq, Eq)]
+pub struct Settle {
+    /// The number of the release.
+    pub number: u64,
+    /// How its delivery ended.
+    pub delivery: Delivery,
+}
+
+/// How a delivery ended that was tried.
+#[derive(Clone, Copy, Debug, PartialEq, Eq)]
+pub enum Delivery {
+    /// The agent has V: `arrived`.
+    Arrived,
+    /// The agent has not said that it has it: `missed`.
+    Missed,
+}
+
+impl Delivery {
+    /// The outcome of the release.
+    pub fn outcome(self) -> Outcome
+        ensures { result ≡ outcome_of self }
+    {
+        match self {
+            Delivery::Arrived => Outcome::Arrived,
+            Delivery::Missed => Outcome::Missed,
+        }
+    }
 }
 
 /// Registers an agent's keys: `register <agent> <ek> <ak> <contact>`.

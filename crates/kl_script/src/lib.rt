@@ -14,7 +14,8 @@ mod verifying;
 mod words;
 
 pub use command::{
-    Activate, Add, Begin, Command, Register, RegistrarCommand, Replace, Reply, VerifierCommand,
+    Activate, Add, Begin, Command, Delivery, Register, RegistrarCommand, Replace, Reply, Settle,
+    VerifierCommand,
 };
 pub use fault::CommandFault;
 pub use numbers::read_number;

@@ -44,6 +44,7 @@ fn read_text(alloc: Global, line: &str) -> Result<Command, CommandFault>
 /// - `begin <agent> <nonce>`, or `begin <agent>` for a nonce that is drawn
 /// - `reply <poll> <bank> <start> <public key> <quote> <measurement list>`
 /// - `lose <poll>`, `pick`, `notice` and `noticed <number>`
+/// - `release <agent>`, `settle <number> arrived` and `settle <number> missed`
 /// - `register <agent> <ek> <ak> <contact>`, `activate <agent> <tag>`, `record <agent>`, `records` and
 ///   `forget <agent>`
 ///

@@ -1,11 +1,11 @@
 use super::*;
-use kl_states::PolicyKind;
+use kl_states::{Outcome, PolicyKind};
 use std::alloc::Global;
 use std::test::*;
 
 /// Lines by the command that they spell and the form of its policy: each command, and its parts at
 /// their edges.
-const LINES: [(&str, &str); 22] = [
+const LINES: [(&str, &str); 25] = [
     (
         "nothing",
         "\n#\n# a comment\n#stop a1\n# \u{e9} \u{1f511} \r\t\\x",
@@ -47,6 +47,15 @@ reply 10 \\0 18446744073709551615 \\\\ \\s\\n 10 a\\n  b",
     ("state", "state a1"),
     ("lose", "lose 0\nlose 10\nlose 18446744073709551615"),
     ("pick", "pick"),
+    ("release", "release a1\nrelease A.b_-"),
+    (
+        "settle arrived",
+        "settle 0 arrived\nsettle 10 arrived\nsettle 18446744073709551615 arrived",
+    ),
+    (
+        "settle missed",
+        "settle 1 missed\nsettle 18446744073709551615 missed",
+    ),
     ("notice", "notice"),
     (
         "noticed",
@@ -87,6 +96,10 @@ activate a1 0\\1\nactivate a/1 00\nactivate\nrecord\nrecord \nrecord a1 a2\nreco
 forget a1 \nforgets a1
 lose\nlose \nlose 01\nlose 1 \nlose 1 2\nlose x\nlose 18446744073709551616\nlost 1\npick \npick 1\n pick\nPick\npicks\nnotice \nnotice 1\n\
 notices\nnoticed\nnoticed \nnoticed 00\nnoticed 1 2\nnoticed -1\nnoticed 18446744073709551616
+release\nrelease \nrelease a1 \nrelease a1 1\nrelease a/1\nrelease  a1\nRelease a1\nreleases a1\nreleased a1
+settle\nsettle \nsettle 1\nsettle 1 \nsettle arrived\nsettle 1  arrived\nsettle  1 arrived\nsettle 1 arrived \nsettle 1 arrived 2\n\
+settle 01 missed\nsettle -1 missed\nsettle x missed\nsettle 18446744073709551616 missed\nsettle 1 Arrived\nsettle 1 arrive\n\
+settle 1 miss\nsettle 1 withdrawn-end\nsettle 1 missed\r\nsettle missed 1\nsettled 1 missed\nsettle a1 missed
 add a1 h sha1 0x0 - 00 - flat
 add a1 h sha1 0x0 - 00 - json\nadd a1 h sha1 0x0 - 00 - Json {}\nadd a1 h sha1 0x0 - 00 - jsonx {}\nadd a1 h sha1 0x0 - 00 - json{}\n\
 add a1 h sha1 0x0 - 00 - flatjson {}\nadd a1 h sha1 0x0 - 00 -  json {}\nadd a1 h sha1 0x0 - 00 json {}\nadd a1 h sha1 0x0 - 00 - json \\0
@@ -114,6 +127,15 @@ fn name_by(kind: PolicyKind, flat: &'static str, json: &'static str) -> &'static
     }
 }
 
+/// The name of a settle, and of how the delivery ended.
+fn name_of_settle(settle: &Settle) -> &'static str {
+    match settle.delivery.outcome() {
+        Outcome::Arrived => "settle arrived",
+        Outcome::Missed => "settle missed",
+        Outcome::Withdrawn(_) => "none",
+    }
+}
+
 /// The name of a command to the verifier, and of its policy's form.
 fn name_of_verifier(command: &VerifierCommand) -> &'static str {
     match command {
@@ -130,6 +152,8 @@ fn name_of_verifier(command: &VerifierCommand) -> &'static str {
         VerifierCommand::State(_) => "state",
         VerifierCommand::Lose(_) => "lose",
         VerifierCommand::Pick => "pick",
+        VerifierCommand::Release(_) => "release",
+        VerifierCommand::Settle(settle) => name_of_settle(settle),
         VerifierCommand::Notice => "notice",
         VerifierCommand::Noticed(_) => "noticed",
     }

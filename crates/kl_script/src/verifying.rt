@@ -4,12 +4,15 @@ ghost use Rattle.std.specs.Prelude.{◌≡◌, ◌≢◌, ◌≤◌, ℕ, List, 
 ghost use Rattle.kl_states.specs.declared.policy_kind.PolicyKind.{PolicyKind as AnyKind};
 ghost use Rattle.kl_script.specs.declared.command.Add.{Add as AnyAdd};
 ghost use Rattle.kl_script.specs.declared.command.Begin.{Begin as AnyBegin};
+ghost use Rattle.kl_script.specs.declared.command.Delivery.{Delivery as AnyDelivery};
 ghost use Rattle.kl_script.specs.declared.command.Replace.{Replace as AnyReplace};
-ghost use Rattle.kl_script.specs.Commands.{SpellsAdd, SpellsBegin, SpellsReplace, SpellsReply};
+ghost use Rattle.kl_script.specs.declared.command.Settle.{Settle as AnySettle};
+ghost use Rattle.kl_script.specs.Commands.{SpellsAdd, SpellsBegin, SpellsReplace, SpellsReply, SpellsSettle};
 ghost use Rattle.kl_script.specs.Commands.{HasVerifierForm, ReplyFields, VerifierCommandFields, kind_word, reply_fields, verifier_fields};
+ghost use Rattle.kl_script.specs.Deliveries.{delivery_word};
 ghost use Rattle.kl_script.specs.Words.{HasNo, IsNumber};
 
-use crate::command::{Add, Begin, Replace, Reply, VerifierCommand};
+use crate::command::{Add, Begin, Delivery, Replace, Reply, Settle, VerifierCommand};
 use crate::digits::{read_key, read_mask, read_share};
 use crate::fault::CommandFault;
 use crate::ids::{read_agent, read_nonce};
@@ -21,7 +24,7 @@ use kl_quote::Evidence;
 use kl_states::{PolicyKind, Text};
 use std::alloc::Global;
 
-/// What stands behind `now`, `lose` and `noticed`: a number alone.
+/// A number alone, as it stands behind `now`, `lose` and `noticed`.
 fn read_decimal(arguments: &str) -> Result<u64, CommandFault>
     ensures found { IfOk result (λ number. IsNumber arguments.now number) }
     ensures none { OnErr result ((number : ℕ) → ¬ (IsNumber arguments.now number)) }
@@ -139,6 +142,31 @@ fn read_reply(alloc: Global, arguments: &str) -> Result<Reply, CommandFault>
     }
 }
 
+/// How a delivery ended: `arrived` or `missed`.
+fn read_delivery(word: &str) -> Option<Delivery>
+    ensures found { IfSome result (λ delivery. word.now ≡ delivery_word delivery) }
+    ensures none { IfNone result ((delivery : AnyDelivery) → word.now ≢ delivery_word delivery) }
+{
+    match word {
+        "arrived" => Some(Delivery::Arrived),
+        "missed" => Some(Delivery::Missed),
+        _ => None,
+    }
+}
+
+/// What stands behind `settle`.
+fn read_settle(arguments: &str) -> Result<Settle, CommandFault>
+    ensures found { IfOk result (λ settle. SpellsSettle arguments.now settle) }
+    ensures none { result ≡ Err CommandFault.NoCommand → (said : AnySettle) → ¬ (SpellsSettle arguments.now said) }
+{
+    let (number, delivery) = cut_at(arguments, ' ')?;
+    let number = read_decimal(number)?;
+    let Some(delivery) = read_delivery(delivery) else {
+        return Err(CommandFault::NoCommand);
+    };
+    Ok(Settle { number, delivery })
+}
+
 /// The command of a line that has no space: it is a word alone.
 fn read_word(line: &str) -> Result<VerifierCommand, CommandFault>
     requires { HasNo 32 line.now }
@@ -172,6 +200,8 @@ pub(crate) fn read_verifier(alloc: Global, line: &str) -> Result<VerifierCommand
         "reply" => Ok(VerifierCommand::Reply(read_reply(alloc, arguments)?)),
         "state" => Ok(VerifierCommand::State(read_agent(arguments)?)),
         "lose" => Ok(VerifierCommand::Lose(read_decimal(arguments)?)),
+        "release" => Ok(VerifierCommand::Release(read_agent(arguments)?)),
+        "settle" => Ok(VerifierCommand::Settle(read_settle(arguments)?)),
         "noticed" => Ok(VerifierCommand::Noticed(read_decimal(arguments)?)),
         _ => Err(CommandFault::NoCommand),
     }

@@ -25,13 +25,11 @@ use Rattle.kl_registrar.specs.declared.fault.RegFault.TheVariants.{Full, KeysFau
 use Rattle.kl_script.specs.declared.command.Register.{Register}
 use Rattle.kl_script.specs.declared.command.RegistrarCommand.{RegistrarCommand}
 use Rattle.kl_script.specs.declared.command.RegistrarCommand.TheVariants as registrar
-use Rattle.kl_script.specs.Commands.{ReplyFields, VerifierCommandFields, add, replace, reactivate, stop, remove, now, begin, reply, state, lose, pick, notice, noticed}
+use Rattle.kl_script.specs.Commands.{ReplyFields, VerifierCommandFields, add, replace, reactivate, stop, remove, now, begin, reply, state, lose, pick, release, settle, notice, noticed}
 use Rattle.kl_script.specs.Commands.{CommandFields, nothing, to_verifier, to_registrar}
 use Rattle.kl_history.specs.declared.record.Record.{Record}
 use Rattle.kl_history.specs.Records.{History, Past, past_of, Start, terms_of}
 use Rattle.kl_history.specs.Legal.{IsLegalPast, IsCaseOf}
-use Rattle.kl_states.specs.declared.outcome.LostWhy.TheVariants.{Named}
-use Rattle.kl_core.specs.Closes.{lost_record}
 use Rattle.kl_core.specs.Tickets.{IsOpenTicket}
 use Rattle.kl_session.specs.declared.stop.Stop.TheVariants.{NoNonce}
 use Rattle.kl_session.specs.Outside.{Outside}
@@ -127,6 +125,8 @@ verifier_on o o' s (reply r) s' line h = reply_on o o' r s s' line h
 verifier_on o o' s (state a) s' line h = same_on o o' h.0
 verifier_on o o' s (lose p) s' line h = same_on o o' h.0
 verifier_on o o' s pick s' line h = same_on o o' h.0
+verifier_on o o' s (release a) s' line h = same_on o o' h.0
+verifier_on o o' s (settle c) s' line h = same_on o o' h.0
 verifier_on o o' s notice s' line h = same_on o o' h.0
 verifier_on o o' s (noticed n) s' line h = same_on o o' h.0
 
@@ -208,9 +208,12 @@ verifier_grows o o' s (begin b) s' line h = by_call s s' line h.2
 verifier_grows o o' s (reply r) s' line (inl f) = (f.made ∷ [], ap (λ (z : VerifierFields). z.history) f.after)
 verifier_grows o o' s (reply r) s' line (inr none) = as_it_was s s' (ap (λ (z : VerifierFields). z.history) none.1.1)
 verifier_grows o o' s (state a) s' line h = as_it_was s s' (ap (λ (z : VerifierFields). z.history) h.1)
-verifier_grows o o' s (lose p) s' line (same, inl f) = (lost_record f.ticket.poll Named f.closed.current ∷ [], ap (λ (z : VerifierFields). z.history) f.after)
+verifier_grows o o' s (lose p) s' line (same, inl f) = by_call s s' line f.2
 verifier_grows o o' s (lose p) s' line (same, inr none) = as_it_was s s' (ap (λ (z : VerifierFields). z.history) none.1)
 verifier_grows o o' s pick s' line h = as_it_was s s' (ap (λ (z : VerifierFields). z.history) h.1)
+verifier_grows o o' s (release a) s' line h = by_call s s' line h.1
+verifier_grows o o' s (settle c) s' line (same, inl f) = by_call s s' line f.2
+verifier_grows o o' s (settle c) s' line (same, inr none) = as_it_was s s' (ap (λ (z : VerifierFields). z.history) none.1)
 verifier_grows o o' s notice s' line h = as_it_was s s' (ap (λ (z : VerifierFields). z.history) h.1)
 verifier_grows o o' s (noticed n) s' line h = as_it_was s s' (ap (λ (z : VerifierFields). z.history) h.1.after)
 

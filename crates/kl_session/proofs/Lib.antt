@@ -1,4 +1,5 @@
 pub mod Opened
+pub mod Ended
 pub mod Replied
 pub mod Commands
 pub mod Digits
@@ -6,6 +7,7 @@ pub mod Obeying
 pub mod OneNaming
 pub mod OneCall
 pub mod OneReply
+pub mod OneClose
 pub mod Moments
 pub mod GoingOn
 pub mod VerifierStep

@@ -14,15 +14,17 @@ use Rattle.kl_core.specs.declared.refusal.Refusal.TheVariants.{Memory}
 use Rattle.kl_core.specs.Installs.{Adds, add_makes, Replaces, replace_makes, Reactivates, reactivate_makes}
 use Rattle.kl_core.specs.Endings.{Stops, stop_makes, Removes, remove_makes}
 use Rattle.kl_core.specs.Begins.{BeginAnswers, begin_makes}
+use Rattle.kl_core.specs.Shares.{ShareFields, Releases, release_makes}
 use Rattle.kl_core.specs.Books.{with_marks}
 use Rattle.kl_core.specs.Delivering.{marks_of}
 use Rattle.kl_core.specs.Answers.{IsAmple, IsAmpleWith, IsOneAnswer}
-use Rattle.kl_core.proofs.OneAnswer.{one_add, one_replace, one_reactivate, one_stop, one_remove, one_begin, one_state, one_pick, one_mark}
+use Rattle.kl_core.proofs.OneAnswer.{one_add, one_replace, one_reactivate, one_stop, one_remove, one_begin, one_release, one_state, one_pick, one_mark}
 use Rattle.kl_session.specs.declared.naming.NoTerms.{NoTerms}
 use Rattle.kl_session.specs.Calls.{VerifierFields, past, with_more, book_of, verifier_of, Answered}
 use Rattle.kl_session.specs.Installs.{says_installed, says_installed_or, NamesNone, DoesAdd, DoesReplace, DoesReactivate}
 use Rattle.kl_session.specs.Endings.{says_done, DoesStop, DoesRemove}
 use Rattle.kl_session.specs.Polls.{says_polled, BeginsWith}
+use Rattle.kl_session.specs.Releasing.{says_released, DoesRelease}
 use Rattle.kl_session.specs.States.{says_state, SaysState}
 use Rattle.kl_session.specs.Noticing.{SaysPicked, DoesMark, says_noticed}
 use Rattle.kl_session.specs.Texts.{says_refused, stopped_line, removed_line, refused_line, no_terms_text, picked_line}
@@ -37,7 +39,7 @@ AreSame x y l m = (x ≡ y) × (l ≡ m)
 
 -- ---- one call
 
-one_call : {A : Type 0} (IsOfKind : A → Type 0) (Answers : A → Past → Type 0) (makes : A → Past → List Record) (says : A → Option (List ℕ))
+pub one_call : {A : Type 0} (IsOfKind : A → Type 0) (Answers : A → Past → Type 0) (makes : A → Past → List Record) (says : A → Option (List ℕ))
     → ((a : A) (line : List ℕ) → says a ≡ Some line → IsOfKind a) → (s x y : VerifierFields) (l m : List ℕ) → IsOneAnswer IsOfKind Answers (past s)
     → Answered Answers makes says s x l → Answered Answers makes says s y m → AreSame x y l m
 one_call IsOfKind Answers makes says of_kind s x y l m one f g =
@@ -64,6 +66,10 @@ done_said text (Err why) line said = said_of why line said
 polled_said : (x : Result TicketFields Refusal) (line : List ℕ) → says_polled x ≡ Some line → IsAmple x
 polled_said (Ok t) line said = tt
 polled_said (Err why) line said = said_of why line said
+
+released_said : (x : Result ShareFields Refusal) (line : List ℕ) → says_released x ≡ Some line → IsAmple x
+released_said (Ok s) line said = tt
+released_said (Err why) line said = said_of why line said
 
 -- ---- the calls that install, stop and remove
 
@@ -103,11 +109,15 @@ pub one_remove_done : (a : List ℕ) (s x y : VerifierFields) (l m : List ℕ) �
 one_remove_done a s x y l m =
     one_call IsAmple (Removes a) (remove_makes a) (says_done (removed_line a)) (done_said (removed_line a)) s x y l m (one_remove (past s) a)
 
--- ---- a poll begins with a nonce, and how an agent stands
+-- ---- a poll begins with a nonce, V is handed out, and how an agent stands
 
 pub one_begin_done : (a n : List ℕ) (s x y : VerifierFields) (l m : List ℕ) → Legal s.history → BeginsWith a n s x l → BeginsWith a n s y m → AreSame x y l m
 one_begin_done a n s x y l m legal =
     one_call IsAmple (BeginAnswers a n s.moment) (begin_makes s.moment) says_polled polled_said s x y l m (one_begin s.history a n s.moment legal)
+
+pub one_release_done : (a : List ℕ) (s x y : VerifierFields) (l m : List ℕ) → Legal s.history → DoesRelease a s x l → DoesRelease a s y m → AreSame x y l m
+one_release_done a s x y l m legal =
+    one_call IsAmple (Releases a) release_makes says_released released_said s x y l m (one_release s.history a legal)
 
 pub one_standing : (a : List ℕ) (s : VerifierFields) (l m : List ℕ) → SaysState a s l → SaysState a s m → l ≡ m
 one_standing a s l m (x, is, says) (y, also, speaks) = says ∙ ap (says_state a) (one_state (past s) a x y is also tt tt) ∙ sym speaks

@@ -28,17 +28,16 @@ use Rattle.kl_history.specs.Accepted.{WasAccepted}
 use Rattle.kl_history.specs.Legal.{IsLegalPast, Legal, IsCaseOf}
 use Rattle.kl_history.proofs.OwnRecords.{begin_at, was_accepted}
 use Rattle.kl_history.proofs.OneStanding.{are_one}
-use Rattle.kl_states.specs.declared.outcome.LostWhy.TheVariants.{Named}
 use Rattle.kl_core.specs.declared.closed.Closed.{Closed}
-use Rattle.kl_core.specs.declared.closed.ClosedAs.TheVariants.{Lost}
-use Rattle.kl_core.specs.Closes.{IsClosed, closed_by, record_by, lost_record}
+use Rattle.kl_core.specs.declared.refusal.Refusal.{Refusal}
+use Rattle.kl_core.specs.declared.refusal.Refusal.TheVariants.{NoPoll}
+use Rattle.kl_core.specs.Closes.{IsClosed, closed_by, record_by}
 use Rattle.kl_core.specs.Tickets.{IsOpenTicket}
 use Rattle.kl_core.proofs.OneAnswer.{same_tickets, one_close_by}
 use Rattle.kl_session.specs.Outside.{Outside}
-use Rattle.kl_session.specs.Calls.{VerifierFields, past as past_at, with_more, FindsNoPoll}
+use Rattle.kl_session.specs.Calls.{VerifierFields, past as past_at, with_more, FindsNone, FindsNoPoll}
 use Rattle.kl_session.specs.Texts.{closed_line}
 use Rattle.kl_session.specs.Replies.{Appraisal, Finds, Unanswered, Short, fields_of, IsFinding, Went, closed_as, closing_record}
-use Rattle.kl_session.specs.Losing.{LosesPoll, DoesLose}
 use Rattle.kl_session.specs.Replies.{ClosesPoll, DoesReply}
 use Rattle.kl_session.specs.Unique.{is_short, LacksNothing}
 use Rattle.kl_session.proofs.Opened.{all_right}
@@ -168,11 +167,12 @@ one_poll_closed relations o o' p p' r s x y l m legal first second f_ample g_amp
     (f.after ∙ ap (λ (z : Record). with_more (z ∷ []) s) same.0 ∙ sym g.after, f.said ∙ ap closed_line same.1 ∙ sym g.said)
 
 -- a reply to an open poll is not refused
-not_both : (p : ℕ) (s y : VerifierFields) (m : List ℕ) (t : TicketFields) → IsOpenTicket (past_at s) t → t.poll ≡ p → ¬ (FindsNoPoll p s y m)
+pub not_both : (p : ℕ) (s y : VerifierFields) (m : List ℕ) (t : TicketFields) → IsOpenTicket (past_at s) t → t.poll ≡ p → ¬ (FindsNoPoll p s y m)
 not_both p s y m t opened poll (shut, _, _) = false≢true (sym shut ∙ ap (λ q. is_open (past_at s) q) (sym poll) ∙ opened.0)
 
-one_refusal : (p : ℕ) (s x y : VerifierFields) (l m : List ℕ) → FindsNoPoll p s x l → FindsNoPoll p s y m → (x ≡ y) × (l ≡ m)
-one_refusal p s x y l m (_, to, says) (_, on, speaks) = (to ∙ sym on, says ∙ sym speaks)
+-- of the two that are refused
+pub one_refusal : (opened : Bool) (why : Refusal) (s x y : VerifierFields) (l m : List ℕ) → FindsNone opened why s x l → FindsNone opened why s y m → (x ≡ y) × (l ≡ m)
+one_refusal opened why s x y l m (_, to, says) (_, on, speaks) = (to ∙ sym on, says ∙ sym speaks)
 
 pub one_reply : (relations : Relations) (o o' p p' : Outside) (r : ReplyFields) (s x y : VerifierFields) (l m : List ℕ) → Legal s.history
     → Answering relations o o' → Answering relations p p' → LacksNothing x.history → LacksNothing y.history
@@ -183,22 +183,5 @@ one_reply relations o o' p p' r s x y l m legal first second f_ample g_ample (in
     absurd (not_both r.poll s y m f.ticket f.opened (ap (λ (z : ReplyFields). z.poll) f.carries) g.1)
 one_reply relations o o' p p' r s x y l m legal first second f_ample g_ample (inr f) (inl g) =
     absurd (not_both r.poll s x l g.ticket g.opened (ap (λ (z : ReplyFields). z.poll) g.carries) f.1)
-one_reply relations o o' p p' r s x y l m legal first second f_ample g_ample (inr f) (inr g) = one_refusal r.poll s x y l m f.1 g.1
-
--- ---- a poll that is given up as lost
-
-one_loss_of : (p : ℕ) (s x y : VerifierFields) (l m : List ℕ) → LosesPoll p s x l → LosesPoll p s y m → (x ≡ y) × (l ≡ m)
-one_loss_of p s x y l m f g =
-    let ticket = one_open_ticket (past_at s) f.ticket g.ticket (f.poll ∙ sym g.poll) f.opened g.opened in
-    let told = subst (λ (t : TicketFields). IsClosed (past_at s) (lost_record t.poll Named g.closed.current) t (Lost Named) g.closed) (sym ticket) g.told in
-    let same = one_close_by (past_at s) (lost_record f.ticket.poll Named) f.ticket (Lost Named) f.closed g.closed f.told told in (
-      f.after ∙ ap (λ (c : Closed). with_more (lost_record f.ticket.poll Named c.current ∷ []) s) same
-          ∙ ap (λ (t : TicketFields). with_more (lost_record t.poll Named g.closed.current ∷ []) s) ticket ∙ sym g.after,
-      f.said ∙ ap closed_line same ∙ sym g.said,
-    )
-
-pub one_lose : (p : ℕ) (s x y : VerifierFields) (l m : List ℕ) → DoesLose p s x l → DoesLose p s y m → (x ≡ y) × (l ≡ m)
-one_lose p s x y l m (inl f) (inl g) = one_loss_of p s x y l m f g
-one_lose p s x y l m (inl f) (inr g) = absurd (not_both p s y m f.ticket f.opened f.poll g)
-one_lose p s x y l m (inr f) (inl g) = absurd (not_both p s x l g.ticket g.opened g.poll f)
-one_lose p s x y l m (inr f) (inr g) = one_refusal p s x y l m f g
+one_reply relations o o' p p' r s x y l m legal first second f_ample g_ample (inr f) (inr g) =
+    one_refusal (is_open (past_at s) r.poll) (NoPoll r.poll) s x y l m f.1 g.1

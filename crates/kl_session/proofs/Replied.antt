@@ -1,11 +1,11 @@
--- How a reply closes its poll.
-use Rattle.std.proofs.Common.{◌≡◌, ◌≢◌, ◌⊎◌, All, eqb, ℕ, ◌+◌, ◌≤◌, Bool, false, List, [], ◌∷◌, ◌++◌, length, Some, inl, inr, refl, ap, sym, ◌∙◌, subst}
-use Rattle.std.proofs.lemmas.List.Elements.{All-head}
+-- How a reply closes its poll, a poll is given up as lost, and a release is settled.
+use Rattle.std.proofs.Common.{◌≡◌, ◌≢◌, ◌⊎◌, All, ℕ, ◌+◌, ◌≤◌, Bool, false, List, [], ◌∷◌, ◌++◌, length, Some, Ok, inl, inr, refl, ap, sym, ◌∙◌, subst}
 use Rattle.kl_entry.specs.Lines.{lines_of}
 use Rattle.kl_quote.specs.declared.evidence.Evidence.{Evidence}
 use Rattle.kl_states.specs.declared.outcome.DropWhy.{DropWhy}
 use Rattle.kl_states.specs.declared.outcome.DropWhy.TheVariants.{Keys, Memory, End}
 use Rattle.kl_states.specs.declared.outcome.LostWhy.TheVariants.{Named}
+use Rattle.kl_states.specs.declared.outcome.Outcome.{Outcome}
 use Rattle.kl_appraise.specs.Asking.{Asked, AskedOnce}
 use Rattle.kl_appraise.specs.Evidence.{check_under}
 use Rattle.kl_appraise.specs.QuoteRules.{IsAnswered, IsUnasked}
@@ -13,7 +13,8 @@ use Rattle.kl_appraise.specs.declared.judged.Outcome.{Outcome as Finding}
 use Rattle.kl_appraise.specs.declared.judged.Outcome.TheVariants as finding
 use Rattle.kl_incr.specs.Kept.{TicketFields}
 use Rattle.kl_incr.specs.Appraisal.{IsIdle, AppraisedFields, IsBlamed}
-use Rattle.kl_history.specs.declared.record.Record.TheVariants.{Dropped}
+use Rattle.kl_history.specs.declared.record.Record.{Record}
+use Rattle.kl_history.specs.declared.record.Record.TheVariants.{Dropped, Settled}
 use Rattle.kl_history.specs.Records.{History, Past, past_of}
 use Rattle.kl_history.specs.Legal.{IsLegalPast, Legal, Row}
 use Rattle.kl_core.specs.declared.closed.Closed.{Closed}
@@ -22,16 +23,20 @@ use Rattle.kl_core.specs.declared.closed.ClosedAs.TheVariants as closed
 use Rattle.kl_core.specs.Closes.{IsClosed, closed_by, record_by, lost_record}
 use Rattle.kl_core.proofs.OneMore.{past_of-snoc}
 use Rattle.kl_session.specs.Outside.{Outside}
-use Rattle.kl_core.specs.declared.refusal.Refusal.TheVariants.{NoPoll}
+use Rattle.kl_core.specs.declared.refusal.Refusal.TheVariants.{NoPoll, NoRelease}
 use Rattle.kl_core.specs.Tickets.{IsOpenTicket}
+use Rattle.kl_core.specs.declared.settlement.Settlement.{Settlement}
+use Rattle.kl_core.specs.Shares.{ShareFields, IsOpenShare, IsSettlement}
+use Rattle.kl_script.specs.declared.command.Settle.{Settle}
+use Rattle.kl_script.specs.Deliveries.{outcome_of}
 use Rattle.kl_script.specs.Commands.{ReplyFields}
-use Rattle.kl_history.specs.Records.{begins, closes}
-use Rattle.kl_session.specs.Calls.{VerifierFields, past, with_more, verifier_of, book_of, FindsNoPoll}
+use Rattle.kl_session.specs.Calls.{VerifierFields, past, with_more, verifier_of, book_of, FindsNoPoll, FindsNoRelease}
 use Rattle.kl_session.specs.Losing.{DoesLose}
-use Rattle.kl_session.specs.Texts.{closed_line, says_refused}
+use Rattle.kl_session.specs.Releasing.{SettlesRelease, DoesSettle}
+use Rattle.kl_session.specs.Texts.{closed_line, settled_line, says_refused}
 use Rattle.kl_session.specs.Replies.{Appraisal, DoesReply, Finds, Unanswered, Short, IsToAsk, closing_record, fields_of}
-use Rattle.kl_session.specs.Inner.Tickets.{AreTickets, Takes}
-use Rattle.kl_session.proofs.Opened.{all_right, closed as without_closed, none_of}
+use Rattle.kl_session.specs.Inner.Tickets.{AreTickets, AreShares, AreKept, Takes}
+use Rattle.kl_session.proofs.Opened.{tickets, shares, PassesBy, ClosesOne, closed_taken, passed_taken, none_of}
 use Rattle.kl_session.specs.Inner.Closed.{IsFound, ClosesBook}
 
 some_same : {A : Type 0} {x y : A} → Some x ≡ Some y → x ≡ y
@@ -117,33 +122,44 @@ dropped_closes o o' b b' t u e Memory c same blamed unasked once undrawn unmade 
 )
 dropped_closes o o' b b' t u e End c same blamed unasked once undrawn unmade idle cost is_closed grown = absurd blamed
 
--- ---- the record that closes a poll
+-- ---- the record that closes a poll leaves the releases alone
 
-closing_closes : (p : ℕ) (e : Evidence) (a : Appraisal) (c : Bool) (q : ℕ) → closes q (closing_record p e a c) ≡ eqb q p
-closing_closes p e (Finds s (finding.Verdict v)) c q = refl
-closing_closes p e (Finds s finding.Restart) c q = refl
-closing_closes p e Unanswered c q = refl
-closing_closes p e Short c q = refl
+pub record ClosesPollAlone (p : ℕ) (r : Record) : Type 0 where
+  pub closes_poll : ClosesOne tickets p r
+  pub leaves_releases : PassesBy shares r
 
-closing_begins : (p : ℕ) (e : Evidence) (a : Appraisal) (c : Bool) (q : ℕ) → begins q (closing_record p e a c) ≡ false
-closing_begins p e (Finds s (finding.Verdict v)) c q = refl
-closing_begins p e (Finds s finding.Restart) c q = refl
-closing_begins p e Unanswered c q = refl
-closing_begins p e Short c q = refl
+closing_alone : (p : ℕ) (e : Evidence) (a : Appraisal) (c : Bool) → ClosesPollAlone p (closing_record p e a c)
+closing_alone p e (Finds s (finding.Verdict v)) c = record {
+  closes_poll = record { opens_none = λ q. refl; closes_it = λ q. refl };
+  leaves_releases = record { opens_none = λ q. refl; closes_none = λ q. refl };
+}
+closing_alone p e (Finds s finding.Restart) c = record {
+  closes_poll = record { opens_none = λ q. refl; closes_it = λ q. refl };
+  leaves_releases = record { opens_none = λ q. refl; closes_none = λ q. refl };
+}
+closing_alone p e Unanswered c = record {
+  closes_poll = record { opens_none = λ q. refl; closes_it = λ q. refl };
+  leaves_releases = record { opens_none = λ q. refl; closes_none = λ q. refl };
+}
+closing_alone p e Short c = record {
+  closes_poll = record { opens_none = λ q. refl; closes_it = λ q. refl };
+  leaves_releases = record { opens_none = λ q. refl; closes_none = λ q. refl };
+}
 
--- ---- the tickets
+poll_closed : (b b' : BookFields) (ts others : List TicketFields) (ss : List ShareFields) (t : TicketFields) (r : Record) → Takes ts t others
+    → ClosesPollAlone t.poll r → b' ≡ and_more (r ∷ []) b → Legal b'.history → AreKept (past_at b) ts ss → AreKept (past_at b') others ss
+poll_closed b b' ts others ss t r taken alone grown legal are = record {
+  tickets_are = closed_taken tickets b b' r ts others t taken alone.closes_poll grown legal are.tickets_are;
+  shares_are = passed_taken shares b b' r ss alone.leaves_releases grown legal are.shares_are;
+}
 
-pub taken_opened : (P : TicketFields → Type 0) (ts others : List TicketFields) (t : TicketFields) → Takes ts t others → All P ts → P t
-taken_opened P ts others t taken all = All-head P t taken.1 (all_right P taken.0 (t ∷ taken.1) (subst (All P) taken.2 all))
+-- ---- what is kept
 
-pub closed_tickets : (o o' : Outside) (b b' : BookFields) (ts others : List TicketFields) (t : TicketFields) (e : Evidence) (c : Closed)
-    → Takes ts t others → ClosesBook o o' b t e c b' → Legal b'.history → AreTickets (past_at b) ts → AreTickets (past_at b') others
-closed_tickets o o' b b' ts others t e c taken by legal are =
-    let closing : (q : ℕ) → closes q by.0 ≡ eqb q t.poll = λ q. ap (closes q) by.2.by_record ∙ closing_closes t.poll e by.2.appraisal c.current q in
-    let beginning : (q : ℕ) → begins q by.0 ≡ false = λ q. ap (begins q) by.2.by_record ∙ closing_begins t.poll e by.2.appraisal c.current q in
-    rw (by.1, taken.3)
-    (without_closed b.history by.0 taken.0 taken.1 t (subst (λ (x : BookFields). Legal x.history) by.1 legal) beginning closing
-    (subst (AreTickets (past_at b)) taken.2 are))
+pub closed_kept : (o o' : Outside) (b b' : BookFields) (ts others : List TicketFields) (ss : List ShareFields) (t : TicketFields) (e : Evidence) (c : Closed)
+    → Takes ts t others → ClosesBook o o' b t e c b' → Legal b'.history → AreKept (past_at b) ts ss → AreKept (past_at b') others ss
+closed_kept o o' b b' ts others ss t e c taken by legal are =
+    poll_closed b b' ts others ss t by.0 taken
+    (subst (ClosesPollAlone t.poll) (sym by.2.by_record) (closing_alone t.poll e by.2.appraisal c.current)) by.1 legal are
 
 -- ---- the session
 
@@ -164,27 +180,59 @@ closes_session o o' r s s' t e c line opened carries b same said = inl (record {
 
 pub finds_no_poll : (p : ℕ) (s : VerifierFields) (ts : List TicketFields) (line : List ℕ) → AreTickets (past s) ts → All (λ t. t.poll ≢ p) ts
     → says_refused (NoPoll p) ≡ Some line → FindsNoPoll p s s line
-finds_no_poll p s ts line are none said = (none_of (past s) ts p are none, refl, sym (some_same said))
+finds_no_poll p s ts line are none said = (none_of tickets (past s) ts p are none, refl, sym (some_same said))
 
 -- ---- a poll is given up as lost
 
-pub lost_tickets : (b b' : BookFields) (ts others : List TicketFields) (t : TicketFields) (now : Bool) → Takes ts t others
-    → b' ≡ and_more (lost_record t.poll Named now ∷ []) b → Legal b'.history → AreTickets (past_at b) ts → AreTickets (past_at b') others
-lost_tickets b b' ts others t now taken grown legal are =
-    rw (grown, taken.3)
-    (without_closed b.history (lost_record t.poll Named now) taken.0 taken.1 t (subst (λ (x : BookFields). Legal x.history) grown legal) (λ q. refl) (λ q. refl)
-    (subst (AreTickets (past_at b)) taken.2 are))
+pub lost_kept : (b b' : BookFields) (ts others : List TicketFields) (ss : List ShareFields) (t : TicketFields) (now : Bool) → Takes ts t others
+    → b' ≡ and_more (lost_record t.poll Named now ∷ []) b → Legal b'.history → AreKept (past_at b) ts ss → AreKept (past_at b') others ss
+lost_kept b b' ts others ss t now taken grown legal are =
+    poll_closed b b' ts others ss t (lost_record t.poll Named now) taken (record {
+      closes_poll = record { opens_none = λ q. refl; closes_it = λ q. refl };
+      leaves_releases = record { opens_none = λ q. refl; closes_none = λ q. refl };
+    }) grown legal are
 
 pub loses_poll : (s s' : VerifierFields) (t : TicketFields) (p : ℕ) (c : Closed) (line : List ℕ) → IsOpenTicket (past s) t → t.poll ≡ p
     → IsClosed (past s) (lost_record t.poll Named c.current) t (closed.Lost Named) c
     → book_of s' ≡ and_more (lost_record t.poll Named c.current ∷ []) (book_of s) → s'.moment ≡ s.moment → line ≡ closed_line c
     → DoesLose p s s' line
-loses_poll s s' t p c line opened poll told grown same said = inl (record {
-  ticket = t;
-  opened = opened;
-  poll = poll;
-  closed = c;
-  told = told;
-  after = same_verifier s' (with_more (lost_record t.poll Named c.current ∷ []) s) grown same;
-  said = said;
-})
+loses_poll s s' t p c line opened poll told grown same said = inl (
+  t,
+  poll,
+  record {
+    answer = Ok c;
+    answers = (opened, told);
+    after = same_verifier s' (with_more (lost_record t.poll Named c.current ∷ []) s) grown same;
+    said = ap Some (sym said);
+  },
+)
+
+-- ---- a release is settled
+
+pub settled_kept : (b b' : BookFields) (ts : List TicketFields) (ss others : List ShareFields) (x : ShareFields) (o : Outcome) (now : Bool) → Takes ss x others
+    → b' ≡ and_more (Settled x.number o now ∷ []) b → Legal b'.history → AreKept (past_at b) ts ss → AreKept (past_at b') ts others
+settled_kept b b' ts ss others x o now taken grown legal are = record {
+  tickets_are = passed_taken tickets b b' (Settled x.number o now) ts (record { opens_none = λ p. refl; closes_none = λ p. refl }) grown legal are.tickets_are;
+  shares_are = closed_taken shares b b' (Settled x.number o now) ss others x taken (record { opens_none = λ n. refl; closes_it = λ n. refl }) grown legal are.shares_are;
+}
+
+pub settles_release : (s s' : VerifierFields) (c : Settle) (o : Outcome) (x : ShareFields) (y : Settlement) (line : List ℕ) → o ≡ outcome_of c.delivery
+    → IsOpenShare (past s) x → x.number ≡ c.number → IsSettlement (past s) x o y
+    → book_of s' ≡ and_more (Settled x.number o y.current ∷ []) (book_of s) → s'.moment ≡ s.moment → line ≡ settled_line y
+    → DoesSettle c s s' line
+settles_release s s' c o x y line outcome opened number told grown same said =
+    let settles : SettlesRelease c.number o s s' line = (
+      x,
+      number,
+      record {
+        answer = Ok y;
+        answers = (opened, told);
+        after = same_verifier s' (with_more (Settled x.number o y.current ∷ []) s) grown same;
+        said = ap Some (sym said);
+      },
+    ) in
+    inl (subst (λ (p : Outcome). SettlesRelease c.number p s s' line) outcome settles)
+
+pub finds_no_release : (n : ℕ) (s : VerifierFields) (ss : List ShareFields) (line : List ℕ) → AreShares (past s) ss → All (λ x. x.number ≢ n) ss
+    → says_refused (NoRelease n) ≡ Some line → FindsNoRelease n s s line
+finds_no_release n s ss line are none said = (none_of shares (past s) ss n are none, refl, sym (some_same said))

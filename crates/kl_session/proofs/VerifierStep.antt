@@ -6,7 +6,7 @@ use Rattle.hex.specs.Hex.{encode_lower}
 use Rattle.kl_io.specs.Told.{WordsTold}
 use Rattle.kl_keys.specs.Relations.{Relations}
 use Rattle.kl_script.specs.declared.command.Begin.{Begin}
-use Rattle.kl_script.specs.Commands.{ReplyFields, VerifierCommandFields, add, replace, reactivate, stop, remove, now, begin, reply, state, lose, pick, notice, noticed}
+use Rattle.kl_script.specs.Commands.{ReplyFields, VerifierCommandFields, add, replace, reactivate, stop, remove, now, begin, reply, state, lose, pick, release, settle, notice, noticed}
 use Rattle.kl_history.specs.Legal.{Legal}
 use Rattle.kl_script.specs.declared.command.Add.{Add}
 use Rattle.kl_script.specs.declared.command.Replace.{Replace}
@@ -19,8 +19,9 @@ use Rattle.kl_session.specs.Polls.{HasNonce, BeginsWith, DoesBegin}
 use Rattle.kl_session.specs.Replies.{DoesReply}
 use Rattle.kl_session.specs.Verifying.{VerifierDoes}
 use Rattle.kl_session.specs.Unique.{LacksNothing, IsFaultless}
-use Rattle.kl_session.proofs.OneCall.{one_add_done, one_replace_done, one_reactivate_done, one_stop_done, one_remove_done, one_begin_done, one_standing, one_picked, one_marked}
-use Rattle.kl_session.proofs.OneReply.{Answering, one_reply, one_lose}
+use Rattle.kl_session.proofs.OneCall.{one_add_done, one_replace_done, one_reactivate_done, one_stop_done, one_remove_done, one_begin_done, one_release_done, one_standing, one_picked, one_marked}
+use Rattle.kl_session.proofs.OneReply.{Answering, one_reply}
+use Rattle.kl_session.proofs.OneClose.{one_lose, one_settle_done}
 use Rattle.kl_session.proofs.Moments.{consumed}
 
 -- ---- what is drawn is the front of what is left
@@ -113,5 +114,7 @@ module _ (relations : Relations) (words : List ℕ) (o o' p p' : Outside) (f : I
   verifier_alike s (state c) x y l m legal _ _ (a, to, says) (b, on, speaks) = alike x y l m (to ∙ sym on, one_standing c s l m says speaks) a b
   verifier_alike s (lose p) x y l m legal _ _ (a, does) (b, acts) = alike x y l m (one_lose p s x y l m does acts) a b
   verifier_alike s pick x y l m legal _ _ (a, to, says) (b, on, speaks) = alike x y l m (to ∙ sym on, one_picked s l m says speaks) a b
+  verifier_alike s (release c) x y l m legal _ _ (a, does) (b, acts) = alike x y l m (one_release_done c s x y l m legal does acts) a b
+  verifier_alike s (settle c) x y l m legal _ _ (a, does) (b, acts) = alike x y l m (one_settle_done c s x y l m does acts) a b
   verifier_alike s notice x y l m legal _ _ (a, to, says) (b, on, speaks) = alike x y l m (to ∙ sym on, says ∙ sym speaks) a b
   verifier_alike s (noticed n) x y l m legal _ _ (a, does) (b, acts) = alike x y l m (one_marked n s x y l m does acts) a b

@@ -1,10 +1,11 @@
 -- What a session's parts do by one call.
-use Rattle.std.specs.Prelude.{◌≡◌, ℕ, false, List, [], ◌++◌, Option, Some}
+use Rattle.std.specs.Prelude.{◌≡◌, ℕ, Bool, false, List, [], ◌++◌, Option, Some}
 use Rattle.kl_history.specs.declared.record.Record.{Record}
-use Rattle.kl_history.specs.Records.{History, Past, past_of, is_open}
+use Rattle.kl_history.specs.Records.{History, Past, past_of, is_open, is_unsettled}
 use Rattle.kl_core.specs.Books.{BookFields}
 use Rattle.kl_core.specs.Texts.{refusal_text}
-use Rattle.kl_core.specs.declared.refusal.Refusal.TheVariants.{NoPoll}
+use Rattle.kl_core.specs.declared.refusal.Refusal.{Refusal}
+use Rattle.kl_core.specs.declared.refusal.Refusal.TheVariants.{NoPoll, NoRelease}
 use Rattle.kl_registrar.specs.Calls.{Call, Log}
 use Rattle.kl_registrar.specs.Records.{Keeps}
 use Rattle.kl_registrar.specs.declared.record.RegRecord.{RegRecord}
@@ -63,9 +64,16 @@ pub record Answered {A : Type 0} (Answers : A → Past → Type 0) (makes : A �
   pub after : s' ≡ with_more (makes answer (past s)) s
   pub said : says answer ≡ Some line
 
--- the poll of this number is not open, so the command is refused and changes nothing
+-- what the command names is not open, so it is refused for this reason and changes nothing
+abbrev pub FindsNone : Bool → Refusal → VerifierFields → VerifierFields → List ℕ → Type 0
+FindsNone opened why s s' line = (opened ≡ false) × (s' ≡ s) × (line ≡ refused_line (refusal_text why))
+
+-- a poll, or a release, by its number
 abbrev pub FindsNoPoll : ℕ → VerifierFields → VerifierFields → List ℕ → Type 0
-FindsNoPoll p s s' line = (is_open (past s) p ≡ false) × (s' ≡ s) × (line ≡ refused_line (refusal_text (NoPoll p)))
+FindsNoPoll p s s' line = FindsNone (is_open (past s) p) (NoPoll p) s s' line
+
+abbrev pub FindsNoRelease : ℕ → VerifierFields → VerifierFields → List ℕ → Type 0
+FindsNoRelease n s s' line = FindsNone (is_unsettled (past s) n) (NoRelease n) s s' line
 
 -- ---- the registrar
 

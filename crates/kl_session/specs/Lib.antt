@@ -8,6 +8,7 @@ pub mod Endings
 pub mod Polls
 pub mod Replies
 pub mod Losing
+pub mod Releasing
 pub mod Noticing
 pub mod States
 pub mod Verifying

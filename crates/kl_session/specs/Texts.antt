@@ -6,7 +6,7 @@ use Rattle.hex.specs.Hex.{encode_lower}
 use Rattle.kl_states.specs.declared.op.Op.{Op}
 use Rattle.kl_states.specs.declared.op.State.{State}
 use Rattle.kl_states.specs.Ops.{number_of, name_of}
-use Rattle.kl_states.specs.Ends.{lost_text, drop_text}
+use Rattle.kl_states.specs.Ends.{lost_text, drop_text, outcome_text}
 use Rattle.kl_states.specs.Texts.{verdict_text}
 use Rattle.kl_incr.specs.Kept.{TicketFields}
 use Rattle.kl_appraise.specs.Kept.{from_of}
@@ -15,6 +15,8 @@ use Rattle.kl_core.specs.declared.closed.ClosedAs.{ClosedAs}
 use Rattle.kl_core.specs.declared.closed.ClosedAs.TheVariants.{Verdict, Restart, Lost, Dropped}
 use Rattle.kl_core.specs.declared.refusal.Refusal.{Refusal}
 use Rattle.kl_core.specs.declared.refusal.Refusal.TheVariants.{Memory}
+use Rattle.kl_core.specs.declared.settlement.Settlement.{Settlement}
+use Rattle.kl_core.specs.Shares.{ShareFields}
 use Rattle.kl_core.specs.Texts.{refusal_text}
 use Rattle.kl_notice.specs.declared.notice.Notice.{Notice}
 use Rattle.kl_notice.specs.Texts.{notice_text}
@@ -99,6 +101,18 @@ closed_text p (Dropped why) now = codes "dropped " ++ decimal p ++ codes " " ++ 
 -- a poll was closed, after which its agent is in this state
 abbrev pub closed_line : Closed → List ℕ
 closed_line c = closed_text c.poll c.as_what c.current ++ codes " state " ++ op_text c.op ++ newline
+
+-- ---- releases
+
+-- V was handed out
+abbrev pub released_line : ShareFields → List ℕ
+released_line s = codes "release " ++ decimal s.number ++ codes " " ++ s.agent ++ codes " poll " ++ decimal s.poll ++ newline
+
+-- a release was settled, after which its agent is in this state
+abbrev pub settled_line : Settlement → List ℕ
+settled_line x =
+    codes "settled " ++ decimal x.number ++ codes " " ++ outcome_text x.outcome ++ codes " " ++ current_text x.current
+    ++ codes " state " ++ op_text x.op ++ newline
 
 -- ---- what is next
 

@@ -3,18 +3,19 @@
 ghost use Rattle.std.specs.Prelude.{◌≡◌, List, ℕ};
 ghost use Rattle.kl_history.specs.Legal.{Legal};
 ghost use Rattle.kl_core.specs.Books.{past, with_more};
-ghost use Rattle.kl_session.specs.Closing.{AreOpen, IsEnded, drops};
-ghost use Rattle.kl_session.specs.Inner.Tickets.{AreTickets};
+ghost use Rattle.kl_session.specs.Closing.{AreOpen, AreUnsettled, IsEnded, drops, withdraws};
+ghost use Rattle.kl_session.specs.Inner.Tickets.{AreTickets, AreShares};
 
 use crate::verifier::Verifier;
-use kl_core::Book;
+use kl_core::{Book, Share};
 use kl_incr::Ticket;
-use kl_states::DropWhy;
+use kl_states::{DropWhy, Outcome};
 
 /// Drops the open polls, whose tickets these are, in their order.
 fn drop_all(book: &mut Book, mut tickets: Vec<Ticket>)
     requires { AreTickets (past book.old) tickets.items }
     ensures dropped { (polls : List ℕ) × AreOpen (past book.old) polls × (book.new ≡ with_more (drops polls) book.old) }
+    ensures legal { Legal book.new.history }
 {
     tickets.reverse();
     while let Some(ticket) = tickets.pop() {
@@ -25,10 +26,29 @@ fn drop_all(book: &mut Book, mut tickets: Vec<Ticket>)
         let _len = book.len();
     }
     tickets.destroy_empty();
+    let _len = book.len();
+}
+
+/// Withdraws the open releases, whose shares these are, in their order.
+fn withdraw_all(book: &mut Book, mut shares: Vec<Share>)
+    requires { AreShares (past book.old) shares.items }
+    ensures withdrawn { (releases : List ℕ) × AreUnsettled (past book.old) releases
+        × (book.new ≡ with_more (withdraws (past book.old) releases) book.old) }
+{
+    shares.reverse();
+    while let Some(share) = shares.pop() {
+        match book.settle_own(share, Outcome::Withdrawn(DropWhy::End)) {
+            Ok(_) => {},
+            Err(_) => unreachable!(),
+        }
+        let _len = book.len();
+    }
+    shares.destroy_empty();
 }
 
 impl Verifier {
-    /// Ends the verifier. The polls that are open are dropped, in the order of their numbers.
+    /// Ends the verifier. The polls that are open are dropped, in the order of their numbers, and then the releases that are
+    /// open are withdrawn, in the order of theirs.
     pub(crate) fn close(self) -> Book
         ensures ended { IsEnded self.history result.history }
         ensures marks { result.marks ≡ self.marks }
@@ -37,10 +57,12 @@ impl Verifier {
         let Verifier {
             mut book,
             tickets,
+            shares,
             moment: _,
             latest: _,
         } = self;
         drop_all(&mut book, tickets);
+        withdraw_all(&mut book, shares);
         let _len = book.len();
         book
     }

@@ -9,10 +9,10 @@ ghost use Rattle.kl_core.specs.Tickets.{IsOpenTicket};
 ghost use Rattle.kl_session.specs.Losing.{DoesLose};
 ghost use Rattle.kl_session.specs.Inner.Stopping.{IsShort};
 
+use crate::numbered::take_numbered;
 use crate::refusals::say_refused;
 use crate::replying::say_closed;
 use crate::stop::Stop;
-use crate::tickets::take_ticket;
 use crate::verifier::Verifier;
 use kl_core::{Book, Closed, ClosedAs, Refusal};
 use kl_incr::Ticket;
@@ -40,7 +40,7 @@ impl Verifier {
         ensures done { IfOk result (λ line. DoesLose poll self.old self.new (string_bytes line)) }
         ensures short { IfErr result (λ stop. IsShort stop self.old self.new (DoesLose poll self.old self.new)) }
     {
-        match take_ticket(&mut self.tickets, poll) {
+        match take_numbered(&mut self.tickets, poll) {
             Some(ticket) => {
                 let closed = lose_poll(&mut self.book, ticket);
                 say_closed(alloc, closed)

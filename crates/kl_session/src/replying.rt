@@ -15,10 +15,10 @@ ghost use Rattle.kl_session.specs.Texts.{closed_line};
 ghost use Rattle.kl_session.specs.Inner.Closed.{ClosesBook, IsFound};
 ghost use Rattle.kl_session.specs.Inner.Stopping.{IsUndone};
 
+use crate::numbered::take_numbered;
 use crate::refusals::say_refused;
 use crate::stop::Stop;
 use crate::texts::closed_line;
-use crate::tickets::take_ticket;
 use crate::verifier::Verifier;
 use kl_core::{Book, Closed, ClosedAs, Refusal};
 use kl_incr::{Appraised, Ticket, appraise_from};
@@ -106,7 +106,7 @@ impl Verifier {
             (outside (Y.told keys.new) words maker steps.new) (reply_fields reply) self.old self.new)) }
     {
         let Reply { poll, evidence } = reply;
-        match take_ticket(&mut self.tickets, poll) {
+        match take_numbered(&mut self.tickets, poll) {
             Some(ticket) => {
                 let closed = close_poll(alloc, &mut self.book, ticket, evidence, keys, steps);
                 say_closed(alloc, closed)

@@ -93,7 +93,8 @@ impl Session {
         }
     }
 
-    /// Ends the session. The polls that are open are dropped, in the order of their numbers.
+    /// Ends the session. The polls that are open are dropped, and the releases that are open withdrawn, each in the order of
+    /// their numbers.
     pub fn close(self) -> Book
         ensures ended { IsEnded self.verifier.history result.history }
         ensures marks { result.marks ≡ self.verifier.marks }

@@ -9,7 +9,7 @@ use kl_io::MemWords;
 use kl_keys::MacKeys;
 use kl_pcr::Steps;
 use kl_script::read_command;
-use kl_states::DropWhy;
+use kl_states::{DropWhy, Outcome};
 use std::alloc::Global;
 use std::marker::Brand;
 use std::sync::ledger::{Blank, Ledger};
@@ -122,6 +122,49 @@ const REGISTERED: [(&str, &str); 13] = [
     ("records", "records 0\n"),
 ];
 
+/// V is handed out on a pass, once for each boot that a pass signs. At the end release 2 is open, of an agent that was
+/// stopped since, release 4 and poll 4. The quotes are by Python's `hmac`.
+const RELEASED: [(&str, &str); 23] = [
+    ("release a1", "refused noagent\n"),
+    ("settle 1 arrived", "refused norelease 1\n"),
+    (
+        "add a1 h sha1 0x10400 - 6b31 2222222222222222222222222222222222222222222222222222222222222222 flat aaaaaaaaaaaaaaaaaaaaaaaaaaaaaaaaaaaaaaaa  /bin/sh",
+        "installed a1 generation 1\n",
+    ),
+    ("release a1", "refused state 1\n"),
+    ("begin a1 n1", "poll 1 a1 generation 1 nonce n1 from 0\n"),
+    (
+        "reply 1 sha1 0 PUB r/1RDR4AYACIRERERERERERERERERERERERERERERERERERERERERERERAAJuMQAAAAAAAAPoAAAAAQAAAAABAAAAAAAAAAEAAAABAAQDAAQBACBhujJXFLiOEdEpmIt6Y4nlz7+Es9kcy2b98hMvBSmWJQ==:wTFNCKCsxUDpZhmQ2wqhiFceM5KHmFvjR+J4HCyb7cc=:TF4ZH8qHtO/ay5lEl9bSNIV5woeHWYmHKjDpLfu0CkCC/HdzCra3Gw== 10 0ab7cae3c9577dc6190249b1a2e8fe52da753afd ima-ng sha1:aaaaaaaaaaaaaaaaaaaaaaaaaaaaaaaaaaaaaaaa /bin/sh\\n",
+        "verdict 1 pass 1 current state 5\n",
+    ),
+    ("release a1", "release 1 a1 poll 1\n"),
+    ("release a1", "refused busy 1\n"),
+    ("settle 2 missed", "refused norelease 2\n"),
+    ("settle 1 missed", "settled 1 missed current state 6\n"),
+    ("settle 1 missed", "refused norelease 1\n"),
+    ("release a1", "release 2 a1 poll 1\n"),
+    (
+        "add b1 h sha1 0x10400 - 6b31 2222222222222222222222222222222222222222222222222222222222222222 flat aaaaaaaaaaaaaaaaaaaaaaaaaaaaaaaaaaaaaaaa  /bin/sh",
+        "installed b1 generation 2\n",
+    ),
+    ("begin b1 n2", "poll 2 b1 generation 2 nonce n2 from 0\n"),
+    (
+        "reply 2 sha1 0 PUB r/1RDR4AYACIRERERERERERERERERERERERERERERERERERERERERERERAAJuMgAAAAAAAAPoAAAAAQAAAAABAAAAAAAAAAEAAAABAAQDAAQBACBhujJXFLiOEdEpmIt6Y4nlz7+Es9kcy2b98hMvBSmWJQ==:LQPvk3Ugp+yeXnQKClSElXKX6w1dhTMmLzFyyJOOBnE=:TF4ZH8qHtO/ay5lEl9bSNIV5woeHWYmHKjDpLfu0CkCC/HdzCra3Gw== 10 0ab7cae3c9577dc6190249b1a2e8fe52da753afd ima-ng sha1:aaaaaaaaaaaaaaaaaaaaaaaaaaaaaaaaaaaaaaaa /bin/sh\\n",
+        "verdict 2 pass 1 current state 5\n",
+    ),
+    ("release b1", "release 3 b1 poll 2\n"),
+    ("settle 3 arrived", "settled 3 arrived current state 3\n"),
+    ("release b1", "refused state 3\n"),
+    ("begin b1 n3", "poll 3 b1 generation 2 nonce n3 from 0\n"),
+    (
+        "reply 3 sha1 0 PUB r/1RDR4AYACIRERERERERERERERERERERERERERERERERERERERERERERAAJuMwAAAAAAAAPoAAAAAgAAAAABAAAAAAAAAAEAAAABAAQDAAQBACBhujJXFLiOEdEpmIt6Y4nlz7+Es9kcy2b98hMvBSmWJQ==:jPBTFYrXoIadr8bNLAGIS0RtrCiQHyBfUNHFA0ifzKM=:TF4ZH8qHtO/ay5lEl9bSNIV5woeHWYmHKjDpLfu0CkCC/HdzCra3Gw== 10 0ab7cae3c9577dc6190249b1a2e8fe52da753afd ima-ng sha1:aaaaaaaaaaaaaaaaaaaaaaaaaaaaaaaaaaaaaaaa /bin/sh\\n",
+        "verdict 3 pass 1 current state 5\n",
+    ),
+    ("release b1", "release 4 b1 poll 3\n"),
+    ("begin b1 n4", "poll 4 b1 generation 2 nonce n4 from 0\n"),
+    ("stop a1", "stopped a1\n"),
+];
+
 /// What a command prints, and `no nonce` where too few words are left for it.
 fn printed<P: PatternMaker, L: Ledger>(
     session: &mut Session,
@@ -132,7 +175,7 @@ fn printed<P: PatternMaker, L: Ledger>(
     words: &mut MemWords,
     steps: &mut Steps<L>,
 ) -> Result<String, Fail> {
-    if line.len() > 200 {
+    if line.len() > 400 {
         return Err(Fail::from("the line is short"));
     }
     let command = match read_command(alloc, line.as_bytes()) {
@@ -181,6 +224,20 @@ fn is_dropped(book: &Book, place: u64, poll: u64) -> bool {
                 why: DropWhy::End,
             },
         ) => *dropped == poll,
+        _ => false,
+    }
+}
+
+/// Whether the record at a place withdraws this release, since the session ended, current or not.
+fn is_withdrawn(book: &Book, place: u64, release: u64, now: bool) -> bool {
+    match book.record(place) {
+        Some(
+            Record::Settled {
+                number,
+                outcome: Outcome::Withdrawn(DropWhy::End),
+                current,
+            },
+        ) => *number == release && *current == now,
         _ => false,
     }
 }
@@ -246,5 +303,25 @@ fn an_agent_registers_and_is_active(rt: HostRuntime) -> Result<(), Fail> {
     );
     let book = session.close();
     assert_eq!(rt; (other?, book.len()), (None, 0));
+    Ok(())
+}
+
+#[test]
+fn v_is_released_and_settled(rt: HostRuntime) -> Result<(), Fail> {
+    let alloc = rt.alloc();
+    let mut words = MemWords::new(alloc, Vec::new(alloc), &[])?;
+    let mut session = Session::new(alloc)?;
+    let other = first_other::<_, Brand>(
+        &mut session,
+        alloc,
+        &RELEASED,
+        &mut StdMaker::new(),
+        &mut words,
+        Blank::new(1),
+    );
+    let book = session.close();
+    assert_eq!(rt; (other?, book.len()), (None, 19));
+    assert!(rt; is_dropped(&book, 16, 4));
+    assert!(rt; is_withdrawn(&book, 17, 2, false) && is_withdrawn(&book, 18, 4, true));
     Ok(())
 }

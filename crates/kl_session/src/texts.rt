@@ -14,14 +14,16 @@ ghost use Rattle.kl_session.specs.Texts.{
   picked_line,
   polled_line,
   refused_line,
+  released_line,
   removed_line,
+  settled_line,
   standing_line,
   stopped_line,
 };
 ghost use Rattle.kl_core.specs.Texts.{refusal_text};
 
 use crate::naming::NoTerms;
-use kl_core::{Closed, ClosedAs, Refusal};
+use kl_core::{Closed, ClosedAs, Refusal, Settlement, Share};
 use kl_incr::Ticket;
 use kl_states::{AgentId, Op, State};
 use std::alloc::{AllocError, Global};
@@ -145,6 +147,31 @@ pub fn closed_line(alloc: Global, closed: Closed) -> Result<String, AllocError>
         ClosedAs::Lost(why) => format!(in alloc; "lost {poll} {why} {current} state {state}\n"),
         ClosedAs::Dropped(why) => format!(in alloc; "dropped {poll} {why} state {state}\n"),
     }
+}
+
+/// V was handed out.
+pub fn released_line(alloc: Global, share: &Share) -> Result<String, AllocError>
+    ensures { IfOk result (λ line. string_bytes line ≡ released_line share.now) }
+{
+    let (number, poll) = (share.number(), share.poll());
+    let agent = share.agent();
+    let agent = agent.as_str();
+    format!(in alloc; "release {number} {agent} poll {poll}\n")
+}
+
+/// A release was settled.
+pub fn settled_line(alloc: Global, settlement: Settlement) -> Result<String, AllocError>
+    ensures { IfOk result (λ line. string_bytes line ≡ settled_line settlement) }
+{
+    let Settlement {
+        number,
+        outcome,
+        current,
+        op,
+    } = settlement;
+    let current = Current(current);
+    let state = Standing(op);
+    format!(in alloc; "settled {number} {outcome} {current} state {state}\n")
 }
 
 /// Which agent is polled next.

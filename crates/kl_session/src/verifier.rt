@@ -13,7 +13,7 @@ use crate::refusals::say_refused;
 use crate::stop::Stop;
 use crate::texts::{now_line, standing_line};
 use kl_base::Memory;
-use kl_core::{Book, Refusal};
+use kl_core::{Book, Refusal, Share};
 use kl_exclude::PatternMaker;
 use kl_incr::Ticket;
 use kl_io::Words;
@@ -33,6 +33,8 @@ pub struct Verifier {
     pub(crate) book: Book,
     /// Of the open polls, in the order of their numbers.
     pub(crate) tickets: Vec<Ticket>,
+    /// Of the open releases, in the order of their numbers.
+    pub(crate) shares: Vec<Share>,
     pub(crate) moment: u64,
     /// The place of the record that installed the policy which was read last: where the next one has the same text, it
     /// is shared and not read again.
@@ -44,7 +46,7 @@ impl Model for Verifier {
     ghost use Rattle.kl_policy.specs.Digests.{digest_map_code};
     ghost use Rattle.kl_core.specs.Books.{past};
     ghost use Rattle.kl_session.specs.Calls.{VerifierFields, verifier_of};
-    ghost use Rattle.kl_session.specs.Inner.Tickets.{AreTickets};
+    ghost use Rattle.kl_session.specs.Inner.Tickets.{AreKept};
 
     ghost Value = { VerifierFields };
 
@@ -52,7 +54,7 @@ impl Model for Verifier {
 
     ghost view = { λ s. verifier_of s.book s.moment };
 
-    ghost invariant = { λ s. AreTickets (past s.book) s.tickets.items };
+    ghost invariant = { λ s. AreKept (past s.book) s.tickets.items s.shares.items };
 }
 
 impl Verifier {
@@ -66,6 +68,7 @@ impl Verifier {
         Ok(Verifier {
             book: Book::new(alloc)?,
             tickets: Vec::new(alloc),
+            shares: Vec::new(alloc),
             moment: 0,
             latest: 0,
         })
@@ -102,6 +105,8 @@ impl Verifier {
             VerifierCommand::State(agent) => self.state(alloc, agent),
             VerifierCommand::Lose(poll) => self.lose(alloc, poll),
             VerifierCommand::Pick => self.pick(alloc),
+            VerifierCommand::Release(agent) => self.release(alloc, agent),
+            VerifierCommand::Settle(settle) => self.settle(alloc, settle),
             VerifierCommand::Notice => self.notice(alloc),
             VerifierCommand::Noticed(number) => self.noticed(alloc, number),
         }

@@ -17,7 +17,7 @@ invariant_of-self g c =
     let x = c.in-Ok.terms in
     let made : Made (Adds a x) (add_makes a x) b.book call.new.self call.result =
     record { answers = call.ensures.answer; grown = call.ensures.history } in
-    kept made (says_installed_or a) b.tickets.items (add_plain a x call.result (past b.book)) c.len-len.ensures.legal c.self.invariant
+    kept made (says_installed_or a) b.tickets.items b.shares.items (add_plain a x call.result (past b.book)) c.len-len.ensures.legal c.self.invariant
 
 pub returns-in-Ok-clause-done : goal.returns-in-Ok-clause-done
 returns-in-Ok-clause-done g c =

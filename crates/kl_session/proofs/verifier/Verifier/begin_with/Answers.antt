@@ -11,7 +11,7 @@ invariant_of-self-in-Ok c =
     let b = c.self.inside in
     let begun = c.in-Ok.ensures in
     rw (c.push_reserved.ensures.items, c.reserve.ensures.items)
-    (joined b.book c.begin-answer.new.self c.args.agent c.args.nonce b.moment c.in-Ok.ticket b.tickets.items
+    (joined b.book c.begin-answer.new.self c.args.agent c.args.nonce b.moment c.in-Ok.ticket b.tickets.items b.shares.items
     begun.answer begun.history c.len-len.ensures.legal c.self.invariant)
 
 pub returns-in-Ok-clause-short : goal.returns-in-Ok-clause-short

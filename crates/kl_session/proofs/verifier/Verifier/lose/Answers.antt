@@ -1,22 +1,22 @@
 use Rattle.std.proofs.Common.{refl, inl, inr, string_bytes}
 use Rattle.std.proofs.lemmas.Result.{IfOk-weaker, IfErr-weaker}
 use Rattle.kl_core.specs.Books.{past}
-use Rattle.kl_core.specs.Tickets.{IsOpenTicket}
 use Rattle.kl_session.specs.Calls.{VerifierFields, verifier_of}
 use Rattle.kl_session.specs.Texts.{closed_line}
-use Rattle.kl_session.proofs.Replied.{taken_opened, lost_tickets, loses_poll, finds_no_poll}
+use Rattle.kl_session.proofs.Opened.{tickets, taken_opened}
+use Rattle.kl_session.proofs.Replied.{lost_kept, loses_poll, finds_no_poll}
 use Rattle.kl_session.proofs.verifier.Verifier.lose.Goals as goal
 
 pub lose_poll-closed-requires : goal.lose_poll-closed-requires
 lose_poll-closed-requires c =
     let b = c.self.inside in
-    taken_opened (IsOpenTicket (past b.book)) b.tickets.items c.take_ticket.new.tickets.items c.in-Some.ticket c.in-Some.ensures.some c.self.invariant.opened
+    taken_opened tickets (past b.book) b.tickets.items c.take_numbered.new.kept.items c.in-Some.ticket c.in-Some.ensures.some c.self.invariant.tickets_are
 
 pub invariant_of-self : goal.invariant_of-self
 invariant_of-self c =
     let b = c.self.inside in
     let lost = c.lose_poll-closed in
-    lost_tickets b.book lost.new.book b.tickets.items c.take_ticket.new.tickets.items c.in-Some.ticket lost.result.current
+    lost_kept b.book lost.new.book b.tickets.items c.take_numbered.new.kept.items b.shares.items c.in-Some.ticket lost.result.current
     c.in-Some.ensures.some lost.ensures.history lost.ensures.legal c.self.invariant
 
 pub returns-in-Some-clause-done : goal.returns-in-Some-clause-done
@@ -26,10 +26,10 @@ returns-in-Some-clause-done c =
     let s : VerifierFields = verifier_of b.book b.moment in
     let s' : VerifierFields = verifier_of lost.new.book b.moment in
     let t = c.in-Some.ticket in
-    let opened = taken_opened (IsOpenTicket (past b.book)) b.tickets.items c.take_ticket.new.tickets.items t c.in-Some.ensures.some c.self.invariant.opened in
+    let opened = taken_opened tickets (past b.book) b.tickets.items c.take_numbered.new.kept.items t c.in-Some.ensures.some c.self.invariant.tickets_are in
     rw (← c.self.view_is)
     (IfOk-weaker c.say_closed.result _ _
-    (λ line said. loses_poll s s' t c.args.poll lost.result (string_bytes line) opened c.in-Some.ensures.poll lost.ensures.closed lost.ensures.history refl said)
+    (λ line said. loses_poll s s' t c.args.poll lost.result (string_bytes line) opened c.in-Some.ensures.number lost.ensures.closed lost.ensures.history refl said)
     c.say_closed.ensures.line)
 
 pub returns-in-Some-clause-short : goal.returns-in-Some-clause-short
@@ -40,10 +40,10 @@ returns-in-Some-clause-short c =
     let s' : VerifierFields = verifier_of lost.new.book b.moment in
     let t = c.in-Some.ticket in
     let line = closed_line lost.result in
-    let opened = taken_opened (IsOpenTicket (past b.book)) b.tickets.items c.take_ticket.new.tickets.items t c.in-Some.ensures.some c.self.invariant.opened in
+    let opened = taken_opened tickets (past b.book) b.tickets.items c.take_numbered.new.kept.items t c.in-Some.ensures.some c.self.invariant.tickets_are in
     rw (← c.self.view_is)
     (IfErr-weaker c.say_closed.result _ _
-    (λ stop short. (short, inl (line, loses_poll s s' t c.args.poll lost.result line opened c.in-Some.ensures.poll lost.ensures.closed lost.ensures.history refl refl)))
+    (λ stop short. (short, inl (line, loses_poll s s' t c.args.poll lost.result line opened c.in-Some.ensures.number lost.ensures.closed lost.ensures.history refl refl)))
     c.say_closed.ensures.short)
 
 pub returns-in-None-clause-done : goal.returns-in-None-clause-done
@@ -52,5 +52,5 @@ returns-in-None-clause-done c =
     let s : VerifierFields = verifier_of b.book b.moment in
     rw (← c.self.view_is)
     (IfOk-weaker c.say_refused.result _ _
-    (λ line said. inr (finds_no_poll c.args.poll s b.tickets.items (string_bytes line) c.self.invariant c.in-None.ensures.none said))
+    (λ line said. inr (finds_no_poll c.args.poll s b.tickets.items (string_bytes line) c.self.invariant.tickets_are c.in-None.ensures.none said))
     c.say_refused.ensures.line)

@@ -1,10 +1,11 @@
 use Rattle.std.proofs.Common.{◌≡◌, inl, refl}
 use Rattle.std.proofs.lemmas.Result.{IfOk-weaker, IfErr-weaker}
-use Rattle.kl_script.specs.Commands.{add, replace, reactivate, stop, remove, now, lose, noticed, reply_fields}
+use Rattle.kl_script.specs.Commands.{add, replace, reactivate, stop, remove, now, lose, release, settle, noticed, reply_fields}
 use Rattle.kl_session.specs.Outside.{outside}
 use Rattle.kl_session.specs.Installs.{DoesAdd, DoesReplace, DoesReactivate}
 use Rattle.kl_session.specs.Endings.{DoesStop, DoesRemove}
 use Rattle.kl_session.specs.Losing.{DoesLose}
+use Rattle.kl_session.specs.Releasing.{DoesRelease, DoesSettle}
 use Rattle.kl_session.specs.Noticing.{DoesMark}
 use Rattle.kl_session.specs.Texts.{now_line}
 use Rattle.kl_session.specs.Verifying.{VerifierDoes}
@@ -169,6 +170,32 @@ returns-in-Lose-clause-stopped g c =
 pub returns-in-Pick-clause-done : goal.returns-in-Pick-clause-done
 unfolding VerifierDoes
 returns-in-Pick-clause-done g c = rw c.in-Pick.is (IfOk-weaker c.pick.result _ _ (λ line said. (refl, refl, said)) c.pick.ensures.says)
+
+pub returns-in-Release-clause-done : goal.returns-in-Release-clause-done
+unfolding VerifierDoes
+returns-in-Release-clause-done g c = rw c.in-Release.is (IfOk-weaker c.release.result _ _ (λ line did. (refl, did)) c.release.ensures.done)
+
+pub returns-in-Release-clause-stopped : goal.returns-in-Release-clause-stopped
+unfolding VerifierDoes
+returns-in-Release-clause-stopped g c =
+    let o = outside (g.Y.Keys.told c.args.keys.now) (g.N.Words.told c.args.nonces.now) (g.P.PatternMaker.told c.args.patterns.now) c.args.steps.now in
+    let s = c.args.self.now in
+    let s' = c.release.new.self in
+    let said = c.in-Release.agent in
+    rw c.in-Release.is (alone c.release.result o s s' (release said) (DoesRelease said s s') (λ line did. (refl, did)) c.release.ensures.short)
+
+pub returns-in-Settle-clause-done : goal.returns-in-Settle-clause-done
+unfolding VerifierDoes
+returns-in-Settle-clause-done g c = rw c.in-Settle.is (IfOk-weaker c.settle.result _ _ (λ line did. (refl, did)) c.settle.ensures.done)
+
+pub returns-in-Settle-clause-stopped : goal.returns-in-Settle-clause-stopped
+unfolding VerifierDoes
+returns-in-Settle-clause-stopped g c =
+    let o = outside (g.Y.Keys.told c.args.keys.now) (g.N.Words.told c.args.nonces.now) (g.P.PatternMaker.told c.args.patterns.now) c.args.steps.now in
+    let s = c.args.self.now in
+    let s' = c.settle.new.self in
+    let said = c.in-Settle.settle in
+    rw c.in-Settle.is (alone c.settle.result o s s' (settle said) (DoesSettle said s s') (λ line did. (refl, did)) c.settle.ensures.short)
 
 pub returns-in-Notice-clause-done : goal.returns-in-Notice-clause-done
 unfolding VerifierDoes

@@ -13,7 +13,7 @@ invariant_of-self c =
     let a = c.args.agent in
     let made : Made (Removes a) (remove_makes a) b.book call.new.self call.result =
     record { answers = call.ensures.answer; grown = call.ensures.history } in
-    kept made (says_done (removed_line a)) b.tickets.items (remove_plain a call.result (past b.book)) c.len-len.ensures.legal c.self.invariant
+    kept made (says_done (removed_line a)) b.tickets.items b.shares.items (remove_plain a call.result (past b.book)) c.len-len.ensures.legal c.self.invariant
 
 pub returns-clause-short : goal.returns-clause-short
 returns-clause-short c =

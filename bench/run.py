@@ -9,14 +9,15 @@ list-1000, list-10000, list-100000     one agent and one poll, of so many entrie
 1x5, 64x5, 1024x5                      so many agents, polls of 5 entries
 1x1000, 64x1000, 1024x1000             the same, polls of 1,000 entries, so policies of 1,000 paths
 policies                               1,024 agents with a policy of 1,000 paths each, polls of 5 entries
-growth                                 300,064 records: what a line costs in the last tenth and in the first
+churn-64, churn-1024                   so many agents that are lost, replaced, rebooted, released and failed, in rounds
+growth, churn-growth                   some 300,000 records: what a line costs in the last tenth and in the first
 crowd                                  what a line costs among 1,024 agents and with one
 
 The program is crates/keylime/out/keylime, which `rt run keylime` and `rt ci` leave there, or the one of --program. With
 --against, another program is run on the same script in alternation with it, as `PROGRAM run < script`; it must print the same,
 and the ratio of the two least times is printed: below 1 the proved program is faster. Times are processor time, of user and
 system, the least of the rounds. Memory is the kernel's high-water mark of the program itself, read once it has played its
-whole script and waits for more, so that the process that measures does not count; growth and crowd read its processor time
+whole script and waits for more, so that the process that measures does not count; growths and crowd read its processor time
 in the same way, within one run. Both need Linux.
 """
 import argparse
@@ -31,7 +32,7 @@ import tempfile
 import termios
 import time
 
-from make_script import Session
+from make_script import Churn, Session
 
 HERE = pathlib.Path(__file__).resolve().parent
 PROGRAM = HERE.parent / "crates" / "keylime" / "out" / "keylime"
@@ -41,7 +42,8 @@ SHAPES |= {f"list-{bank}-{entries}": {"entries": entries, "bank": bank} for bank
 SHAPES |= {f"{agents}x5": {"agents": agents, "polls": 20_000, "entries": 5} for agents in (1, 64, 1024)}
 SHAPES |= {f"{agents}x1000": {"agents": agents, "polls": polls, "entries": 1000} for agents, polls in ((1, 256), (64, 256), (1024, 1024))}
 SHAPES["policies"] = {"agents": 1024, "polls": 2048, "entries": 5, "paths": 1000}
-NAMES = [name for name in SHAPES if "sha" not in name] + ["growth", "crowd"]
+SHAPES |= {f"churn-{agents}": {"agents": agents, "rounds": rounds, "entries": 5} for agents, rounds in ((64, 300), (1024, 10))}
+NAMES = [name for name in SHAPES if "sha" not in name] + ["growth", "churn-growth", "crowd"]
 
 
 def timed(words, script):
@@ -90,11 +92,12 @@ def least(programs, script, expected, rounds):
 
 
 def write(folder, name, shape):
-    """Writes a script and what it must print, and answers their paths and the number of lines."""
+    """Writes a script and what it must print, and answers their paths, and the numbers of lines, polls and records."""
     script, expected = folder / name, folder / f"{name}.printed"
+    session = (Churn if "rounds" in shape else Session)(**shape)
     with open(script, "wb") as out, open(expected, "wb") as printed:
-        lines = Session(**shape).write(out, printed)
-    return script, expected, lines
+        lines = session.write(out, printed)
+    return script, expected, lines, session.polls, session.records
 
 
 def mib(peak):
@@ -104,9 +107,9 @@ def mib(peak):
 def measure(name, programs, rounds, folder):
     """One shape: time, time a poll and an entry, peak memory."""
     shape = SHAPES[name]
-    script, expected, lines = write(folder, name, shape)
+    script, expected, lines, polls, _ = write(folder, name, shape)
     best = least(programs, script, expected, rounds)
-    seconds, polls = best[programs[0]], shape.get("polls", 1)
+    seconds = best[programs[0]]
     peaks = [peak_of([program, "run"], script) for program in programs]
     row = f"{name:<16} {lines:>7} lines {seconds:>8.4f} s {lines / seconds:>9.0f} lines/s {seconds / polls * 1e6:>10.1f} us/poll"
     row += f" {seconds / polls / shape['entries'] * 1e9:>7.0f} ns/entry  peak {' against '.join(map(mib, peaks))}"
@@ -145,15 +148,16 @@ def least_clocked(programs, script, expected, marks, rounds):
     return best
 
 
-def growth(programs, rounds, folder):
+def growth(name, programs, rounds, folder):
     """A line in the last tenth of a long session against one in the first, the adds not counted."""
-    agents, polls = 64, 150_000
-    script, expected, lines = write(folder, "growth", {"agents": agents, "polls": polls, "entries": 5})
-    tenth = 2 * polls // 10
+    agents = 64
+    shape = {"agents": agents, "entries": 5} | ({"polls": 150_000} if name == "growth" else {"rounds": 460})
+    script, expected, lines, _, records = write(folder, name, shape)
+    tenth = (lines - agents) // 10
     best = least_clocked(programs, script, expected, [agents, agents + tenth, lines - tenth, lines], rounds)
     for program in programs:
         first, _, last = best[program]
-        print(f"growth           {lines} records, first tenth {first / tenth * 1e6:.2f} us a line, last tenth {last / tenth * 1e6:.2f}: "
+        print(f"{name:<16} {records} records, first tenth {first / tenth * 1e6:.2f} us a line, last tenth {last / tenth * 1e6:.2f}: "
               f"{last / first:.2f} times  peak {mib(peak_of([program, 'run'], script))}  {pathlib.Path(program).name}", flush=True)
 
 
@@ -161,7 +165,7 @@ def crowd(programs, rounds, folder):
     """A line among 1,024 agents against one with a single agent, the adds not counted."""
     polls, best = 20_000, {}
     for agents in (1, 1024):
-        script, expected, lines = write(folder, f"crowd-{agents}", {"agents": agents, "polls": polls, "entries": 5})
+        script, expected, lines, _, _ = write(folder, f"crowd-{agents}", {"agents": agents, "polls": polls, "entries": 5})
         best[agents] = least_clocked(programs, script, expected, [agents, lines], rounds)
     for program in programs:
         one, many = (best[agents][program][0] / (2 * polls) for agents in (1, 1024))
@@ -187,8 +191,10 @@ def main():
             place = pathlib.Path(folder)
             if name in SHAPES:
                 measure(name, programs, arguments.rounds, place)
+            elif name == "crowd":
+                crowd(programs, arguments.rounds, place)
             else:
-                {"growth": growth, "crowd": crowd}[name](programs, arguments.rounds, place)
+                growth(name, programs, arguments.rounds, place)
 
 
 if __name__ == "__main__":

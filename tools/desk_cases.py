@@ -1,4 +1,4 @@
-"""Lost polls and when an agent is polled next, failures and their notices."""
+"""Lost polls and when an agent is polled next, failures and their notices, and the key share V: released, delivered, missed."""
 import json
 
 import evidence as ev
@@ -34,6 +34,14 @@ NONE_DUE = "pick", "due none"
 
 def noticed(number):
     return f"noticed {number}", f"noticed {number}"
+
+
+def release(number, agent, poll):
+    return f"release {agent}", f"release {number} {agent} poll {poll}"
+
+
+def settle(number, outcome, ending):
+    return f"settle {number} {outcome}", f"settled {number} {outcome} {ending}"
 
 
 def losses(agent, first, generation, count):
@@ -106,10 +114,65 @@ session("a failed agent's late poll makes no second notice", S, B, replace("a1",
         bad(1, "n1", "stale state 7"), noticed(1), NO_NOTICE)
 session("a stop is no failure", S, B, stop("a1"), invalid(1, "stale state 10"), NO_NOTICE)
 
+# ---- releases of V
+session("early release", S, refused("release a1", "state 1"), refused("settle 4 missed", "norelease 4"), refused("release zz", "noagent"))
+session("release and replace", S, B, R, release(1, "a1", 1), refused("release a1", "busy 1"), replace("a1", 2),
+        settle(1, "arrived", "stale state 1"), begin("a1", "n2", 2, 2), passes(2, "n2", "current state 3"), refused("release a1", "state 3"))
+session("released and arrived", S, B, R, release(1, "a1", 1), state("a1", 5, "PROVIDE_V", 1, 2), settle(1, "arrived", "current state 3"),
+        refused("release a1", "state 3"), refused("settle 1 arrived", "norelease 1"), begin("a1", "n2", 2, 1),
+        passes(2, "n2", "current state 3"), refused("release a1", "state 3"))
+session("another boot wants V again", S, B, R, release(1, "a1", 1), settle(1, "arrived", "current state 3"), begin("a1", "n2", 2, 1),
+        passes(2, "n2", "current state 5", boot=(2, 0)), release(2, "a1", 2), settle(2, "arrived", "current state 3"),
+        begin("a1", "n3", 3, 1), passes(3, "n3", "current state 3", boot=(1, 0)), begin("a1", "n4", 4, 1),
+        passes(4, "n4", "current state 5", boot=(2, 1)))
+session("undelivered", S, B, R, *(step for n in range(1, 6) for step in (
+        release(n, "a1", 1), settle(n, "missed", f"current state {7 if n == 5 else 6}"))), notice(1, "a1", 1, "undelivered"),
+        refused("release a1", "state 7"), refused("begin a1 n2", "state 7"))
+session("an arrival ends the count of missed ones", S, B, R, *(step for n in range(1, 5) for step in (
+        release(n, "a1", 1), settle(n, "missed", "current state 6"))), release(5, "a1", 1), settle(5, "arrived", "current state 3"),
+        begin("a1", "n2", 2, 1), passes(2, "n2", "current state 5", boot=(2, 0)), release(6, "a1", 2), settle(6, "missed", "current state 6"),
+        NO_NOTICE)
+session("a pass does not end the count of missed ones", S, B, R, *(step for n in range(1, 5) for step in (
+        release(n, "a1", 1), settle(n, "missed", "current state 6"))), begin("a1", "n2", 2, 1), passes(2, "n2", "current state 6"),
+        release(5, "a1", 2), settle(5, "missed", "current state 7"), notice(1, "a1", 1, "undelivered"))
+session("late deliveries that were missed count for nothing", S, B, R, *(step for n in range(1, 5) for step in (
+        release(n, "a1", 1), settle(n, "missed", "current state 6"))), release(5, "a1", 1), reactivate("a1", 2),
+        settle(5, "missed", "stale state 1"), begin("a1", "n2", 2, 2), passes(2, "n2", "current state 5"), NO_NOTICE)
+session("no V, no release", add("a1", 1, v="-"), B, passes(1, "n1", "current state 3"), refused("release a1", "state 3"))
+session("V waits for a pass of the installed generation", S, B, R, replace("a1", 2), refused("release a1", "state 1"),
+        begin("a1", "n2", 2, 2), refused("release a1", "state 3"), bad(2, "n2", "current state 7"), refused("release a1", "state 7"))
+session("no V behind a late pass", S, B, replace("a1", 2), passes(1, "n1", "stale state 1"), refused("release a1", "state 1"),
+        begin("a1", "n2", 2, 2))
+session("no V after a later failure", S, B, R, begin("a1", "n2", 2, 1), bad(2, "n2", "current state 7"), refused("release a1", "state 7"))
+session("V while a poll is open or was lost", S, B, R, begin("a1", "n2", 2, 1), release(1, "a1", 1), lose(2, "current state 5"),
+        settle(1, "missed", "current state 6"), release(2, "a1", 1), settle(2, "arrived", "current state 4"))
+session("a stopped and a removed agent's release", S, B, R, release(1, "a1", 1), add("b1", 2), begin("b1", "n2", 2, 2),
+        passes(2, "n2", "current state 5"), release(2, "b1", 2), stop("a1"), refused("release a1", "state 10"), remove("b1"),
+        settle(2, "arrived", "stale state none"), settle(1, "missed", "stale state 10"))
+session("a release from before the agent was added again", S, B, R, release(1, "a1", 1), remove("a1"), add("a1", 2),
+        begin("a1", "n2", 2, 2), passes(2, "n2", "current state 5"), release(2, "a1", 2), settle(1, "arrived", "stale state 5"),
+        refused("release a1", "busy 2"), settle(2, "arrived", "current state 3"))
+session("an arrival before a removal does not count after it", S, B, R, release(1, "a1", 1), settle(1, "arrived", "current state 3"),
+        remove("a1"), add("a1", 2), begin("a1", "n2", 2, 2), passes(2, "n2", "current state 5"))
+session("a release from before a replacement is open still", S, B, R, release(1, "a1", 1), replace("a1", 2), begin("a1", "n2", 2, 2),
+        passes(2, "n2", "current state 5"), refused("release a1", "busy 1"), settle(1, "missed", "stale state 5"), release(2, "a1", 2))
+session("V reached the boot of a pass, and then a newer pass is of another", S, B, R, release(1, "a1", 1), begin("a1", "n2", 2, 1),
+        passes(2, "n2", "current state 5", boot=(2, 0)), settle(1, "arrived", "current state 5"), release(2, "a1", 2),
+        begin("a1", "n3", 3, 1), passes(3, "n3", "current state 3"), settle(2, "arrived", "current state 3"))
+session("releases are numbered over all agents", S, add("b1", 2), B, R, begin("b1", "n2", 2, 2), passes(2, "n2", "current state 5"),
+        release(1, "b1", 2), release(2, "a1", 1), settle(2, "arrived", "current state 3"), settle(1, "arrived", "current state 3"))
+session("no release to settle", refused("settle 1 arrived", "norelease 1"), S, B, R, release(1, "a1", 1),
+        refused("settle 0 missed", "norelease 0"), refused("settle 2 missed", "norelease 2"), refused(f"settle {MOST} arrived", f"norelease {MOST}"),
+        settle(1, "missed", "current state 6"), refused("settle 1 arrived", "norelease 1"))
+session("late pass and release", S, B, replace("a1", 2), passes(1, "n1", "stale state 1"), refused("release a1", "state 1"),
+        begin("a1", "n2", 2, 2), passes(2, "n2", "current state 5"), release(1, "a1", 2))
+
 # ---- what is no command
 for name, line in {
     "lose without a number": "lose", "lose of two": "lose 1 2", "lose of a number with a zero first": "lose 01", "pick of an agent": "pick a1",
-    "pick with a space": "pick ", "notice with a number": "notice 1", "noticed without a number": "noticed",
+    "pick with a space": "pick ", "notice with a number": "notice 1", "noticed without a number": "noticed", "release of nobody": "release",
+    "release of two": "release a1 b1", "settle without an outcome": "settle 1", "settle withdrawn": "settle 1 withdrawn-end",
+    "settle in capitals": "settle 1 Missed", "settle without a number": "settle arrived", "settle with a space": "settle 1 missed ",
 }.items():
     session(f"no command: {name}", ("now 1", "now 1"), (line, "fault line 2"), status=3)
 
@@ -117,22 +180,23 @@ for name, line in {
 # ---- the example: a fleet's day
 session(
     "fleet",
-    "# two agents, polled one after the other",
+    "# two agents; V is due to each that passes",
     now(0), add("web-1", 1), add("web-2", 2, ev.flat_policy([BOOT_AGGREGATE])),
     due("web-1"), begin("web-1", "q1", 1, 1), due("web-2"), begin("web-2", "q2", 2, 2), NONE_DUE,
     "",
-    "# the one passes",
-    passes(1, "q1", "current state 5"),
+    "# the one passes and gets V; the first delivery does not come through",
+    passes(1, "q1", "current state 5"), release(1, "web-1", 1), settle(1, "missed", "current state 6"),
+    release(2, "web-1", 1), settle(2, "arrived", "current state 3"),
     "",
     "# the other fails, which is told until it is marked",
-    reply(2, "q2", [BOOT_AGGREGATE, ev.SHELL], "failed entry 1 unknown current state 7"), refused("begin web-2 q3", "state 7"),
+    reply(2, "q2", [BOOT_AGGREGATE, ev.SHELL], "failed entry 1 unknown current state 7"), refused("release web-2", "state 7"),
     notice(1, "web-2", 2, "failed entry 1 unknown"), noticed(1), NO_NOTICE,
     "",
     "# a poll that is lost is tried again later, and later still",
-    now(2000), due("web-1"), begin("web-1", "q3", 3, 1), lose(3, "current state 5"), now(5999), NONE_DUE, now(6000), due("web-1"),
-    begin("web-1", "q4", 4, 1), lose(4, "current state 5"), now(13_999), NONE_DUE, now(14_000), due("web-1"),
+    now(2000), due("web-1"), begin("web-1", "q3", 3, 1), lose(3, "current state 4"), now(5999), NONE_DUE, now(6000), due("web-1"),
     "",
-    "# a reboot: the list of the new boot passes",
-    begin("web-1", "q5", 5, 1), passes(5, "q5", "current state 5", boot=(2, 0)), now(15_999), NONE_DUE, now(16_000), due("web-1"),
+    "# a reboot: the pass is of another boot, to which V has not come",
+    begin("web-1", "q4", 4, 1), passes(4, "q4", "current state 5", boot=(2, 0)), release(3, "web-1", 4),
+    settle(3, "arrived", "current state 3"),
     example=True,
 )

@@ -275,7 +275,7 @@ NO_COMMANDS = {
 for name, line in NO_COMMANDS.items():
     session(f"no command: {name}", ("now 1", "now 1"), (line, "fault line 2"), status=3)
 # What is no command of this part.
-for line in ["release a1", "settle 1 arrived", "take 1", "deliver 1", "journal"]:
+for line in ["take 1", "deliver 1", "journal"]:
     session(f"not yet: {line.split()[0]}", (line, "fault line 1"), status=3)
 session("fields with escapes", add("a1", 1, contact="\\0"), add("b1", 2, contact="a\\sb\\n\\\\"), add("c1", 3, contact="ä=;,"))
 session("digits in either case", (ev.add_line(POLICY.upper().replace("BOOT_AGGREGATE", "boot_aggregate").replace("/BIN/SH", "/bin/sh"),

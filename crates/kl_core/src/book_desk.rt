@@ -40,32 +40,32 @@ impl Desk for Book {
         answer
     }
 
-    fn reactivate(&mut self, _alloc: Global, agent: &AgentId) -> Result<u64, Refusal> {
-        let answer = Book::reactivate(self, agent);
+    fn reactivate(&mut self, alloc: Global, agent: &AgentId) -> Result<u64, Refusal> {
+        let answer = Book::reactivate(self, alloc, agent);
         let _len = self.len();
         answer
     }
 
-    fn stop(&mut self, _alloc: Global, agent: &AgentId) -> Result<(), Refusal> {
-        let answer = Book::stop(self, agent);
+    fn stop(&mut self, alloc: Global, agent: &AgentId) -> Result<(), Refusal> {
+        let answer = Book::stop(self, alloc, agent);
         let _len = self.len();
         answer
     }
 
-    fn remove(&mut self, _alloc: Global, agent: &AgentId) -> Result<(), Refusal> {
-        let answer = Book::remove(self, agent);
+    fn remove(&mut self, alloc: Global, agent: &AgentId) -> Result<(), Refusal> {
+        let answer = Book::remove(self, alloc, agent);
         let _len = self.len();
         answer
     }
 
     fn begin(
         &mut self,
-        _alloc: Global,
+        alloc: Global,
         agent: &AgentId,
         nonce: Nonce,
         now: u64,
     ) -> Result<Ticket, Refusal> {
-        let answer = Book::begin(self, agent, nonce, now);
+        let answer = Book::begin(self, alloc, agent, nonce, now);
         let _len = self.len();
         answer
     }

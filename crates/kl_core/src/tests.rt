@@ -81,8 +81,8 @@ fn added(book: &mut Book, alloc: Global, number: u64) -> Result<Result<u64, Refu
 }
 
 /// The poll that began, or why none did; the ticket is let go.
-fn begun(book: &mut Book, number: u64) -> Result<Result<u64, Refusal>, Fail> {
-    Ok(match book.begin(&agent(number)?, nonce(b"n1")?, 0) {
+fn begun(book: &mut Book, alloc: Global, number: u64) -> Result<Result<u64, Refusal>, Fail> {
+    Ok(match book.begin(alloc, &agent(number)?, nonce(b"n1")?, 0) {
         Ok(ticket) => {
             let poll = ticket.poll();
             ticket.discard();
@@ -104,16 +104,16 @@ fn dropped(book: &mut Book, ticket: Ticket) -> Result<Closed, Refusal> {
 }
 
 /// A ticket for a poll of an agent that begins at a moment.
-fn polled(book: &mut Book, number: u64, at: u64) -> Result<Ticket, Fail> {
-    match book.begin(&agent(number)?, nonce(b"n1")?, at) {
+fn polled(book: &mut Book, alloc: Global, number: u64, at: u64) -> Result<Ticket, Fail> {
+    match book.begin(alloc, &agent(number)?, nonce(b"n1")?, at) {
         Ok(ticket) => Ok(ticket),
         Err(_) => Err(Fail::from("the agent may be polled")),
     }
 }
 
 /// The state of an agent once a poll of it that began at a moment was lost.
-fn lost(book: &mut Book, number: u64, at: u64) -> Result<Option<Op>, Fail> {
-    let ticket = polled(book, number, at)?;
+fn lost(book: &mut Book, alloc: Global, number: u64, at: u64) -> Result<Option<Op>, Fail> {
+    let ticket = polled(book, alloc, number, at)?;
     match book.lose(ticket, LostWhy::Named) {
         Ok(closed) => Ok(closed.op),
         Err((_why, ticket)) => {
@@ -153,7 +153,7 @@ fn the_65th_poll_has_no_room_for_its_evidence(rt: HostRuntime) -> Result<(), Fai
         } else {
             Err(Refusal::JournalBytes)
         };
-        assert_eq!(rt; begun(&mut book, number)?, wanted);
+        assert_eq!(rt; begun(&mut book, alloc, number)?, wanted);
     }
     Ok(())
 }
@@ -180,11 +180,14 @@ fn a_journal_takes_1000000_records(rt: HostRuntime) -> Result<(), Fail> {
     let _generation = added(&mut book, alloc, 1)?;
     let agent = agent(1)?;
     for _ in 0..999_998 {
-        let _generation = book.reactivate(&agent);
+        let _generation = book.reactivate(alloc, &agent);
     }
-    assert_eq!(rt; begun(&mut book, 1)?, Err(Refusal::JournalRecords));
-    assert_eq!(rt; book.reactivate(&agent), Ok(1_000_000));
-    assert_eq!(rt; book.reactivate(&agent), Err(Refusal::JournalRecords));
+    assert_eq!(rt; begun(&mut book, alloc, 1)?, Err(Refusal::JournalRecords));
+    assert_eq!(rt; book.reactivate(alloc, &agent), Ok(1_000_000));
+    assert_eq!(rt;
+        book.reactivate(alloc, &agent),
+        Err(Refusal::JournalRecords)
+    );
     Ok(())
 }
 
@@ -223,7 +226,7 @@ fn a_ticket_of_other_values_closes_nothing_and_its_own_closes_once(
     let alloc = rt.alloc();
     let mut book = book(alloc)?;
     let _generation = added(&mut book, alloc, 1)?;
-    let _poll = begun(&mut book, 1)?;
+    let _poll = begun(&mut book, alloc, 1)?;
     let closed = Closed {
         poll: 1,
         agent: agent(1)?,
@@ -251,19 +254,19 @@ fn live(book: &mut Book, alloc: Global, number: u8) -> Result<(), Fail> {
     let agent = agent(1)?;
     match number {
         1 => {
-            let _poll = begun(book, 1)?;
+            let _poll = begun(book, alloc, 1)?;
         },
         2 => {
-            let _generation = book.reactivate(&agent);
+            let _generation = book.reactivate(alloc, &agent);
         },
         3 => {
-            let _stopped = book.stop(&agent);
+            let _stopped = book.stop(alloc, &agent);
         },
         4 => {
             let _generation = book.replace(alloc, &agent, policy(alloc, "")?);
         },
         5 => {
-            let _removed = book.remove(&agent);
+            let _removed = book.remove(alloc, &agent);
         },
         _ => {
             let _generation = added(book, alloc, 1)?;
@@ -306,11 +309,14 @@ fn the_fifth_loss_in_a_row_fails_an_agent_and_is_told(rt: HostRuntime) -> Result
         (Op::GetQuoteRetry, 0),
         (Op::Failed, 1),
     ] {
-        let state = lost(&mut book, 1, 0)?;
+        let state = lost(&mut book, alloc, 1, 0)?;
         assert_eq!(rt; (state, next_number(&book)), (Some(wanted), told));
     }
-    assert_eq!(rt; begun(&mut book, 1)?, Err(Refusal::WrongState(Op::Failed)));
-    assert_eq!(rt; book.reactivate(&agent(1)?), Ok(2));
+    assert_eq!(rt;
+        begun(&mut book, alloc, 1)?,
+        Err(Refusal::WrongState(Op::Failed))
+    );
+    assert_eq!(rt; book.reactivate(alloc, &agent(1)?), Ok(2));
     Ok(())
 }
 
@@ -326,7 +332,7 @@ fn each_loss_doubles_how_long_an_agent_waits(rt: HostRuntime) -> Result<(), Fail
         (100_000, 116_000),
         (u64::MAX - 1, u64::MAX),
     ] {
-        let _state = lost(&mut book, 1, at)?;
+        let _state = lost(&mut book, alloc, 1, at)?;
         assert_eq!(rt;
             (picked(&book, 1, due - 1)?, picked(&book, 1, due)?),
             (0, 1)
@@ -342,16 +348,16 @@ fn who_is_due_longest_is_picked_and_then_by_name(rt: HostRuntime) -> Result<(), 
     for number in 1..=3 {
         let _generation = added(&mut book, alloc, number)?;
     }
-    let _state = lost(&mut book, 1, 5_000)?;
+    let _state = lost(&mut book, alloc, 1, 5_000)?;
     for number in 2..=3 {
-        let ticket = polled(&mut book, number, 5_000)?;
+        let ticket = polled(&mut book, alloc, number, 5_000)?;
         let _closed = dropped(&mut book, ticket);
     }
     for (now, wanted) in [(6_999, 0), (7_000, 2), (9_000, 2)] {
         assert_eq!(rt; picked(&book, 3, now)?, wanted);
     }
     for (number, wanted) in [(2, 3), (3, 1), (1, 0)] {
-        polled(&mut book, number, 9_000)?.discard();
+        polled(&mut book, alloc, number, 9_000)?.discard();
         assert_eq!(rt; picked(&book, 3, 9_000)?, wanted);
     }
     Ok(())
@@ -364,7 +370,7 @@ fn notices_are_delivered_in_order(rt: HostRuntime) -> Result<(), Fail> {
     for number in 1..=2 {
         let _generation = added(&mut book, alloc, number)?;
         for _ in 0..5 {
-            let _state = lost(&mut book, number, 0)?;
+            let _state = lost(&mut book, alloc, number, 0)?;
         }
     }
     for (number, marked, then) in [

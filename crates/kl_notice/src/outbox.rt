@@ -51,7 +51,7 @@ impl Outbox {
     ///
     /// # Errors
     /// [`Memory`] where there is none.
-    pub fn reserve(&mut self, count: usize) -> Result<(), Memory>
+    pub fn reserve(&mut self, _alloc: Global, count: usize) -> Result<(), Memory>
         ensures room { OnOk result (count ≤ self.new.spare) }
         ensures kept { self.old.spare ≤ self.new.spare }
         ensures posted { self.new.posted ≡ self.old.posted }

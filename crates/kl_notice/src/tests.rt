@@ -45,7 +45,7 @@ fn notices_are_delivered_in_order_and_once(rt: HostRuntime) -> Result<(), Fail> 
     let agent = agent(b"web-1")?;
     let mut outbox = Outbox::new(rt.alloc())?;
     assert!(rt; outbox.next().is_none() && !outbox.mark_delivered(1));
-    outbox.reserve(2)?;
+    outbox.reserve(rt.alloc(), 2)?;
     outbox.push(agent, 1, FailWhy::Losses);
     outbox.push(agent, 4, FailWhy::Undelivered);
     // The number that is marked, whether it is the next one's, and the number that is next then.

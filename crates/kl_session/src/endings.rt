@@ -41,7 +41,7 @@ impl Verifier {
         ensures done { IfOk result (λ line. DoesStop agent self.old self.new (string_bytes line)) }
         ensures short { IfErr result (λ stop. IsShort stop self.old self.new (DoesStop agent self.old self.new)) }
     {
-        let answer = self.book.stop(&agent);
+        let answer = self.book.stop(alloc, &agent);
         let _len = self.book.len();
         say_stopped(alloc, agent, answer)
     }
@@ -51,7 +51,7 @@ impl Verifier {
         ensures done { IfOk result (λ line. DoesRemove agent self.old self.new (string_bytes line)) }
         ensures short { IfErr result (λ stop. IsShort stop self.old self.new (DoesRemove agent self.old self.new)) }
     {
-        let answer = self.book.remove(&agent);
+        let answer = self.book.remove(alloc, &agent);
         let _len = self.book.len();
         say_removed(alloc, agent, answer)
     }

@@ -130,7 +130,7 @@ impl Verifier {
         ensures done { IfOk result (λ line. DoesReactivate agent self.old self.new (string_bytes line)) }
         ensures short { IfErr result (λ stop. IsShort stop self.old self.new (DoesReactivate agent self.old self.new)) }
     {
-        let answer = self.book.reactivate(&agent);
+        let answer = self.book.reactivate(alloc, &agent);
         let _len = self.book.len();
         say_installed(alloc, agent, answer)
     }

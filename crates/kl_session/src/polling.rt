@@ -84,7 +84,7 @@ impl Verifier {
         ensures short { IfErr result (λ stop. IsShort stop self.old self.new (BeginsWith agent nonce self.old self.new)) }
     {
         self.tickets.reserve(1)?;
-        let answer = self.book.begin(&agent, nonce, self.moment);
+        let answer = self.book.begin(alloc, &agent, nonce, self.moment);
         let _len = self.book.len();
         match answer {
             Ok(ticket) => {

@@ -170,7 +170,7 @@ impl Book {
     ///
     /// # Errors
     /// `Memory` where memory runs out, and then nothing changes.
-    fn hand(&mut self, handed: Handed) -> Result<u64, Refusal>
+    fn hand(&mut self, alloc: Global, handed: Handed) -> Result<u64, Refusal>
         requires ready { IsReady self.old.history (past self.old) handed }
         requires room { HasRoom (past self.old) 2 }
         ensures number { IfOk result (λ n. n ≡ handings (past self.old) + 1) }
@@ -182,6 +182,7 @@ impl Book {
         let target = Target::new(handed.agent, entry.added, handed.pass.boot);
         let ends = ends(&self.polls, &self.releases);
         match reserve_release(
+            alloc,
             &mut self.records,
             &mut self.outbox,
             &mut self.reached,
@@ -219,7 +220,7 @@ impl Book {
         self.check_release(agent)?;
         let handed = self.ready(agent);
         let (v, public, contact) = self.parts(alloc, &handed)?;
-        let number = self.hand(handed)?;
+        let number = self.hand(alloc, handed)?;
         Ok(Share::new(
             number,
             handed.agent,
@@ -338,6 +339,7 @@ impl Book {
 /// # Errors
 /// `Memory` where memory runs out; then there may be more room for records and notices.
 fn reserve_release(
+    alloc: Global,
     records: &mut Vec<Record>,
     outbox: &mut Outbox,
     reached: &mut BTreeMap<Target, bool>,
@@ -356,6 +358,6 @@ fn reserve_release(
     ensures same { OnErr result (IsUnchanged reached.old reached.new) }
 {
     records.reserve(ends + 2)?;
-    outbox.reserve(ends + 1)?;
+    outbox.reserve(alloc, ends + 1)?;
     reserve_mark(reached, target)
 }

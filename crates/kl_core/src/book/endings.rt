@@ -9,13 +9,14 @@ use crate::agents::{kept_at, note, take_out};
 use crate::refusal::Refusal;
 use kl_history::Record;
 use kl_states::AgentId;
+use std::alloc::Global;
 
 impl Book {
     /// Stops an agent.
     ///
     /// # Errors
     /// `NoAgent`, `WrongState` where it is not live, `JournalRecords` or `Memory`.
-    pub fn stop(&mut self, agent: &AgentId) -> Result<(), Refusal>
+    pub fn stop(&mut self, _alloc: Global, agent: &AgentId) -> Result<(), Refusal>
         ensures answer { Stops agent.now result (past self.old) }
         ensures history { self.new ≡ with_more (stop_makes agent.now result (past self.old)) self.old }
     {
@@ -37,7 +38,7 @@ impl Book {
     ///
     /// # Errors
     /// `NoAgent`, `JournalRecords` or `Memory`.
-    pub fn remove(&mut self, agent: &AgentId) -> Result<(), Refusal>
+    pub fn remove(&mut self, _alloc: Global, agent: &AgentId) -> Result<(), Refusal>
         ensures answer { Removes agent.now result (past self.old) }
         ensures history { self.new ≡ with_more (remove_makes agent.now result (past self.old)) self.old }
     {

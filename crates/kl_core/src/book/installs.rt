@@ -102,7 +102,7 @@ impl Book {
     ///
     /// # Errors
     /// `NoAgent`, `JournalRecords` or `Memory`.
-    pub fn reactivate(&mut self, agent: &AgentId) -> Result<u64, Refusal>
+    pub fn reactivate(&mut self, _alloc: Global, agent: &AgentId) -> Result<u64, Refusal>
         ensures answer { Reactivates agent.now result (past self.old) }
         ensures history { self.new ≡ with_more (reactivate_makes agent.now result (past self.old)) self.old }
     {

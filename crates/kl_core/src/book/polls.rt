@@ -16,6 +16,7 @@ use crate::refusal::Refusal;
 use kl_history::Record;
 use kl_incr::Ticket;
 use kl_states::{AgentId, Nonce};
+use std::alloc::Global;
 
 impl Book {
     /// The last poll of an agent, where it is open.
@@ -58,7 +59,13 @@ impl Book {
     /// # Errors
     /// `NoAgent`, `WrongState` where it is not live, `Busy` where a poll of its installed generation is open,
     /// `JournalRecords`, `JournalBytes` or `Memory`.
-    pub fn begin(&mut self, agent: &AgentId, nonce: Nonce, now: u64) -> Result<Ticket, Refusal>
+    pub fn begin(
+        &mut self,
+        alloc: Global,
+        agent: &AgentId,
+        nonce: Nonce,
+        now: u64,
+    ) -> Result<Ticket, Refusal>
         ensures answer { BeginAnswers agent.now nonce now result (past self.old) }
         ensures history { self.new ≡ with_more (begin_makes now result (past self.old)) self.old }
     {
@@ -69,7 +76,10 @@ impl Book {
             Ok(()) => {},
             Err(_) => return Err(Refusal::Memory),
         }
-        match self.outbox.reserve(ends(&self.polls, &self.releases) + 1) {
+        match self
+            .outbox
+            .reserve(alloc, ends(&self.polls, &self.releases) + 1)
+        {
             Ok(()) => {},
             Err(_) => return Err(Refusal::Memory),
         }

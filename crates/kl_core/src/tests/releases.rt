@@ -39,7 +39,7 @@ fn passed<L: Ledger>(book: &mut Book, alloc: Global, blank: Blank) -> Result<Opt
     let mut steps = Steps::<L>::of(blank);
     let mut keys = MacKeys::new(alloc, &[]).ok().ok_or("memory")?;
     let evidence = evidence(alloc)?;
-    let ticket = polled(book, 1, 0)?;
+    let ticket = polled(book, alloc, 1, 0)?;
     match appraise_from(alloc, ticket, evidence, &mut keys, &mut steps) {
         Ok(done) => finished(book, done),
         Err((ticket, _why)) => {
@@ -175,7 +175,7 @@ fn a_late_arrival_reaches_the_boot_of_a_later_pass(rt: HostRuntime) -> Result<()
     let mut book = owing(alloc)?;
     let _op = passed::<Brand>(&mut book, alloc, Blank::new(1))?;
     let _number = released(&mut book, alloc)?;
-    assert_eq!(rt; book.reactivate(&agent(1)?), Ok(2));
+    assert_eq!(rt; book.reactivate(alloc, &agent(1)?), Ok(2));
     assert_eq!(rt;
         passed::<Brand>(&mut book, alloc, Blank::new(1))?,
         Some(Op::ProvideV)

@@ -21,7 +21,7 @@ use Rattle.kl_console.specs.Calls.{FailsAtLast}
 use Rattle.kl_console.specs.Lines.{IsLine, Comes, IsOverLimit, script_limit, ended}
 use Rattle.kl_console.specs.Script.{Executed, SpellsNone}
 use Rattle.kl_console.specs.Run.{Moment, Ran, IsFaulty, LacksWords, IsOver, EndsAs, IsStatus}
-use Rattle.kl_console.specs.Complete.{IsCommand, AreCommands, IsComplete}
+use Rattle.kl_console.specs.Complete.{IsCommand, AreCommands, IsComplete, nonce_draw, verifier_draw, registrar_draw, drawn_for, WantsWords}
 use Rattle.kl_console.proofs.Coming.{nothing_comes, nothing_over, one_comes, comes_within, comes_on, over_on, first_line, not_bare, either_further}
 
 -- ---- behind any lines of a script of commands comes a command, or nothing is left
@@ -86,34 +86,41 @@ none_over offset bytes fits (inr (line, comes, is)) over = comes_within offset b
 
 -- ---- too few words could be drawn
 
--- a draw that took nothing met a fault, or fewer than 32 bytes are left
-pub record TakesNone (o o' : Outside) : Type 0 where
-  pub cause : Counts o.words.calls o'.words.calls ⊤ ⊎ HasFewer o'.words.left 32
+-- of so many bytes, where any were to be drawn: a draw that took nothing met a fault, or fewer are left
+pub record TakesNone (draw : Option ℕ) (o o' : Outside) : Type 0 where
+  pub count : ℕ
+  pub wanted : draw ≡ Some count
+  pub cause : Counts o.words.calls o'.words.calls ⊤ ⊎ HasFewer o'.words.left count
 
-more_than : (left : Option (List ℕ)) (n : ℕ) → n ≤ 32 → HasFewer left n → HasFewer left 32
-more_than None n le few = tt
-more_than (Some left) n le few = omega (arith, le, few)
-
-takes_none : (n : ℕ) (o o' : Outside) → n ≤ 32 → DrawsNone n o o' → TakesNone o o'
-takes_none n o o' le none = record {
+takes_none : (draw : Option ℕ) (n : ℕ) (o o' : Outside) → draw ≡ Some n → DrawsNone n o o' → TakesNone draw o o'
+takes_none draw n o o' wanted none = record {
+  count = n;
+  wanted = wanted;
   cause = elim none.cause [
     | inl met ↦ inl met
-    | inr few ↦ inr (more_than o'.words.left n le (subst (λ (left : Option (List ℕ)). HasFewer left n) (sym none.left) few.0))
+    | inr few ↦ inr (subst (λ (left : Option (List ℕ)). HasFewer left n) (sym none.left) few.0)
   ];
 }
 
-verifier_takes : (o o' : Outside) (s : VerifierFields) (c : VerifierCommandFields) (s' : VerifierFields) → VerifierStopped NoNonce o o' s c s' → TakesNone o o'
-verifier_takes o o' s (begin b) s' h = takes_none 16 o o' (omega arith) h.1.1
+verifier_takes : (o o' : Outside) (s : VerifierFields) (c : VerifierCommandFields) (s' : VerifierFields) → VerifierStopped NoNonce o o' s c s'
+    → TakesNone (verifier_draw c) o o'
+verifier_takes o o' s (begin b) s' h = takes_none (nonce_draw b.nonce) 16 o o' (ap (λ (named : Option (List ℕ)). nonce_draw named) h.1.0) h.1.1
 verifier_takes o o' s _ s' h = absurd h.1
 
-registrar_takes : (o o' : Outside) (calls : Log) (c : RegistrarCommand) (calls' : Log) → RegistrarStopped NoNonce o o' calls c calls' → TakesNone o o'
-registrar_takes o o' calls (Register r) calls' h = takes_none 32 o o' (omega arith) h.1
+registrar_takes : (o o' : Outside) (calls : Log) (c : RegistrarCommand) (calls' : Log) → RegistrarStopped NoNonce o o' calls c calls'
+    → TakesNone (registrar_draw c) o o'
+registrar_takes o o' calls (Register r) calls' h = takes_none (Some 32) 32 o o' refl h.1
 registrar_takes o o' calls _ calls' h = absurd h.1
 
-draws_none : (o o' : Outside) (s : SessionFields) (c : CommandFields) (s' : SessionFields) → IsStopped NoNonce o o' s c s' → TakesNone o o'
+draws_none : (o o' : Outside) (s : SessionFields) (c : CommandFields) (s' : SessionFields) → IsStopped NoNonce o o' s c s' → TakesNone (drawn_for c) o o'
 draws_none o o' s nothing s' h = absurd h
 draws_none o o' s (to_verifier c) s' h = verifier_takes o o' s.verifier c s'.verifier h.0
 draws_none o o' s (to_registrar c) s' h = registrar_takes o o' s.calls c s'.calls h.0
+
+-- a line that comes whatever is left comes where nothing is
+comes_last : (offset : ℕ) (bytes line : List ℕ) → Comes offset None bytes line → Comes offset (Some []) bytes line
+comes_last offset bytes line (inl whole) = inl whole
+comes_last offset bytes line (inr (is, bare)) = inr (is, record { some = bare.some; part = bare.part; at_end = refl })
 
 -- ---- how the run ends
 
@@ -137,28 +144,44 @@ module _ {before after : Moment} (is : IsComplete before after) where
       let left = (took s rest _ _ ran).0 in
       none_over (length (ended s.lines)) (rest ++ left) s.fits (comes_next s rest _ _ ran) (over_on (length (ended s.lines)) left rest over)
 
-  -- then too few words are left at the end
-  too_few : (B : BookFields) → LacksWords before after B → HasFewer after.outside.words.left 32
+  -- then too few words are left at the end for the line that comes
+  too_few : (B : BookFields) → LacksWords before after B → WantsWords is.script after.outside.words.left
   too_few B (then, s, rest, ran, stops, _) =
+      let took = took s rest _ _ ran in
+      let told = subst (λ (left : Option (List ℕ)). Comes (length (ended s.lines)) left rest stops.line) took.1 stops.next_line in
       let on = follows_on before.outside then empty s.commands s.texts s.last s.follows in
       let none = draws_none then after.outside s.last stops.command s.last stops.stopped in
-      elim none.cause [
-        | inl met ↦ absurd (is.drawn (omega (arith, (met.met tt).0, on.drawn)))
-        | inr few ↦ few
-      ]
+      record {
+        line = stops.line;
+        there = record {
+          front = s.lines;
+          each = s.each;
+          bytes = rest ++ took.0;
+          parts = took.2 ∙ append_assoc (ended s.lines) rest took.0;
+          comes = comes_last (length (ended s.lines)) (rest ++ took.0) stops.line (comes_on (length (ended s.lines)) took.0 rest stops.line told);
+        };
+        command = stops.command;
+        spelled = stops.spelled;
+        count = none.count;
+        wanted = none.wanted;
+        fewer = elim none.cause [
+          | inl met ↦ absurd (is.drawn (omega (arith, (met.met tt).0, on.drawn)))
+          | inr few ↦ few
+        ];
+      }
 
 -- the counts of faults say so of the read and the put that failed
 met_rose : (old new : Calls) (Fault : Type 0) → FailsAtLast old new Fault → Fault → Rose old.faults new.faults
 met_rose old new Fault fails met = omega (arith, (fails.met met).0)
 
-abbrev Completes : Moment → Moment → BookFields → ℕ → Type 0
-Completes before after B status =
-    EndsAs before after status B → status ≢ 2 → (status ≡ 0) ⊎ ((status ≡ 70) ⊎ ((status ≡ 6) × HasFewer after.outside.words.left 32))
+abbrev Completes : Moment → Moment → List ℕ → BookFields → ℕ → Type 0
+Completes before after script B status =
+    EndsAs before after status B → status ≢ 2 → (status ≡ 0) ⊎ ((status ≡ 70) ⊎ ((status ≡ 6) × WantsWords script after.outside.words.left))
 
 module _ {before after : Moment} (B : BookFields) (is : IsComplete before after) where
-  by_status : All (Completes before after B) (0 ∷ 2 ∷ 3 ∷ 4 ∷ 5 ∷ 6 ∷ 8 ∷ 70 ∷ [])
+  by_status : All (Completes before after is.script B) (0 ∷ 2 ∷ 3 ∷ 4 ∷ 5 ∷ 6 ∷ 8 ∷ 70 ∷ [])
   by_status =
-      let P = Completes before after B in
+      let P = Completes before after is.script B in
       All-cons P 0 (2 ∷ 3 ∷ 4 ∷ 5 ∷ 6 ∷ 8 ∷ 70 ∷ []) (λ ends begun. inl refl)
       (All-cons P 2 (3 ∷ 4 ∷ 5 ∷ 6 ∷ 8 ∷ 70 ∷ []) (λ ends begun. absurd (begun refl))
       (All-cons P 3 (4 ∷ 5 ∷ 6 ∷ 8 ∷ 70 ∷ []) (λ ends begun. absurd (not_faulty is B (ends.fault refl)))
@@ -169,6 +192,6 @@ module _ {before after : Moment} (B : BookFields) (is : IsComplete before after)
       (All-cons P 70 [] (λ ends begun. inr (inl refl)) (All-nil P))))))))
 
 pub complete_run : (before after : Moment) (status : ℕ) (B : BookFields) → EndsAs before after status B → IsStatus status → status ≢ 2
-    → IsComplete before after → (status ≡ 0) ⊎ ((status ≡ 70) ⊎ ((status ≡ 6) × HasFewer after.outside.words.left 32))
+    → (is : IsComplete before after) → (status ≡ 0) ⊎ ((status ≡ 70) ⊎ ((status ≡ 6) × WantsWords is.script after.outside.words.left))
 complete_run before after status B ends among begun is =
-    All-contains (Completes before after B) (0 ∷ 2 ∷ 3 ∷ 4 ∷ 5 ∷ 6 ∷ 8 ∷ 70 ∷ []) status (by_status B is) among ends begun
+    All-contains (Completes before after is.script B) (0 ∷ 2 ∷ 3 ∷ 4 ∷ 5 ∷ 6 ∷ 8 ∷ 70 ∷ []) status (by_status B is) among ends begun

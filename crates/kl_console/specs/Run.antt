@@ -24,8 +24,8 @@ pub record Moment : Type 0 where
 abbrev pub moment : SourceTold → SinkTold → Outside → Moment
 moment script out outside = record { script = script; out = out; outside = outside }
 
--- Between two moments the one was taken from the script, by reads that gave a byte at least, but for the last; the other was put
--- into the output, and there were so many puts. Where an object does not tell, nothing is said of its bytes.
+-- Between two moments the one was taken from the script, by at most one read more than it has bytes; the other was put into the
+-- output, and there were so many puts. Where an object does not tell, nothing is said of its bytes.
 pub record Ran (before after : Moment) (consumed written : List ℕ) (puts : ℕ) : Type 0 where
   pub read : Consumes before.script.left after.script.left consumed
   pub reads : after.script.calls.made ≤ before.script.calls.made + length consumed + 1

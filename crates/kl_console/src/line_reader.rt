@@ -18,8 +18,11 @@ const LINE_LIMIT: usize = 16_777_216;
 /// The most bytes that a script may have, all newlines counted.
 const SCRIPT_LIMIT: u64 = 1_099_511_627_776;
 
-/// How many bytes one turn asks the source for. A line that took more memory lets it go.
+/// How many bytes one turn asks the source for.
 const TURN: usize = 65_536;
+
+/// How many bytes a line may have whose memory is kept for the next.
+const KEPT: usize = 1_048_576;
 
 /// How many bytes a line has room for, which is more than it may have: memory that is not written to is not
 /// taken, and the C library gives back so large a piece at once and keeps none of that size for later.
@@ -129,8 +132,8 @@ impl LineReader {
     pub fn let_go(&mut self, alloc: Global)
         ensures { self.new ≡ record { line = []; ahead = self.old.ahead; passed = self.old.passed } }
     {
-        // The memory of few bytes is kept, so that a small line costs no allocation.
-        if self.line.len() > TURN {
+        // The memory of few bytes is kept, so that such a line costs no allocation.
+        if self.line.len() > KEPT {
             self.line = with_room(alloc);
         }
         self.line.clear();

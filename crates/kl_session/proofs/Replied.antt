@@ -1,6 +1,5 @@
 -- How a reply closes its poll, a poll is given up as lost, and a release is settled.
-use Rattle.std.proofs.Common.{◌≡◌, ◌≢◌, ◌⊎◌, All, ℕ, ◌+◌, ◌≤◌, Bool, false, List, [], ◌∷◌, ◌++◌, length, Some, Ok, inl, inr, refl, ap, sym, ◌∙◌, subst}
-use Rattle.kl_entry.specs.Lines.{lines_of}
+use Rattle.std.proofs.Common.{◌≡◌, ◌≢◌, ◌⊎◌, All, ℕ, Bool, false, List, [], ◌∷◌, ◌++◌, Some, Ok, inl, inr, refl, ap, sym, ◌∙◌, subst}
 use Rattle.kl_quote.specs.declared.evidence.Evidence.{Evidence}
 use Rattle.kl_states.specs.declared.outcome.DropWhy.{DropWhy}
 use Rattle.kl_states.specs.declared.outcome.DropWhy.TheVariants.{Keys, Memory, End}
@@ -34,7 +33,7 @@ use Rattle.kl_session.specs.Calls.{VerifierFields, past, with_more, verifier_of,
 use Rattle.kl_session.specs.Losing.{DoesLose}
 use Rattle.kl_session.specs.Releasing.{SettlesRelease, DoesSettle}
 use Rattle.kl_session.specs.Texts.{closed_line, settled_line, says_refused}
-use Rattle.kl_session.specs.Replies.{Appraisal, DoesReply, Finds, Unanswered, Short, IsToAsk, closing_record, fields_of}
+use Rattle.kl_session.specs.Replies.{Appraisal, DoesReply, Finds, Unanswered, Short, IsToAsk, Costs, closing_record, fields_of}
 use Rattle.kl_session.specs.Inner.Tickets.{AreTickets, AreShares, AreKept, Takes}
 use Rattle.kl_session.proofs.Opened.{tickets, shares, PassesBy, ClosesOne, closed_taken, passed_taken, none_of}
 use Rattle.kl_session.specs.Inner.Closed.{IsFound, ClosesBook}
@@ -58,7 +57,7 @@ pub found_closes : (o o' : Outside) (b b' : BookFields) (t : TicketFields) (e : 
     → IsFound (past_at b) a.ticket.poll a.evidence a.signed a.finding
     → IsAnswered o.keys.relations t.terms.ak (check_under t.terms t.nonce e a.signed)
     → (IsUnasked (check_under t.terms t.nonce e false) ⊎ Asked o.keys o'.keys t.terms.ak e.quote (Some a.signed))
-    → ((o'.keys ≡ o.keys) ⊎ IsToAsk t e) → o'.words ≡ o.words → o'.maker ≡ o.maker → o'.steps ≤ o.steps + length (lines_of e.list)
+    → ((o'.keys ≡ o.keys) ⊎ IsToAsk t e) → o'.words ≡ o.words → o'.maker ≡ o.maker → Costs e.list o.steps o'.steps
     → IsClosed (past_at b) (record_by a.ticket.poll a.evidence a.signed a.finding c.current) a.ticket (closed_by a.finding) c
     → b' ≡ and_more (record_by a.ticket.poll a.evidence a.signed a.finding c.current ∷ []) b
     → ClosesBook o o' b t e c b'
@@ -86,7 +85,7 @@ found_closes o o' b b' t e a c same_t same_e found answered question unasked und
 -- without a finding
 pub dropped_closes : (o o' : Outside) (b b' : BookFields) (t u : TicketFields) (e : Evidence) (why : DropWhy) (c : Closed) → u ≡ t
     → IsBlamed why o.keys o'.keys t e → ((o'.keys ≡ o.keys) ⊎ IsToAsk t e) → ((o'.keys ≡ o.keys) ⊎ AskedOnce o.keys o'.keys t.terms.ak e.quote)
-    → o'.words ≡ o.words → o'.maker ≡ o.maker → IsIdle why t o.steps o'.steps → o'.steps ≤ o.steps + length (lines_of e.list)
+    → o'.words ≡ o.words → o'.maker ≡ o.maker → IsIdle why t o.steps o'.steps → Costs e.list o.steps o'.steps
     → IsClosed (past_at b) (Dropped u.poll why) u (closed.Dropped why) c → b' ≡ and_more (Dropped u.poll why ∷ []) b → ClosesBook o o' b t e c b'
 dropped_closes o o' b b' t u e Keys c same blamed unasked once undrawn unmade idle cost is_closed grown = (
   Dropped u.poll Keys,

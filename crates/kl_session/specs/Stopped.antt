@@ -3,6 +3,7 @@ use Rattle.std.specs.Prelude.{◌≡◌, ◌⊎◌, ℕ, List, Option, None}
 use Rattle.kl_exclude.specs.Told.{MakerTold, RefusesNone}
 use Rattle.kl_registrar.specs.Asking.{Asked}
 use Rattle.kl_registrar.specs.Calls.{Log}
+use Rattle.kl_registrar.specs.Records.{IsFull}
 use Rattle.kl_script.specs.declared.command.Register.{Register}
 use Rattle.kl_script.specs.declared.command.RegistrarCommand.{RegistrarCommand}
 use Rattle.kl_script.specs.declared.command.RegistrarCommand.TheVariants as registrar
@@ -55,8 +56,9 @@ abbrev pub IsToRegister : RegistrarCommand → (Register → Type 0) → Type 0
 IsToRegister (registrar.Register r) So = So r
 IsToRegister _ So = ⊥
 
--- a secret was drawn, and then the keys were asked for the blob without a fault
-pub record AskedInVain (o o' : Outside) (r : Register) : Type 0 where
+-- the registrar was not full, a secret was drawn, and then the keys were asked for the blob without a fault
+pub record AskedInVain (o o' : Outside) (calls : Log) (r : Register) : Type 0 where
+  pub room : ¬ IsFull calls r.agent
   pub secret : List ℕ
   pub then : Outside
   pub draws : Draws 32 o then secret
@@ -69,7 +71,7 @@ pub record AskedInVain (o o' : Outside) (r : Register) : Type 0 where
 abbrev pub RegistrarStopped : Stop → Outside → Outside → Log → RegistrarCommand → Log → Type 0
 RegistrarStopped NoNonce o o' calls c calls' = (calls' ≡ calls) × IsToRegister c (λ r. DrawsNone 32 o o')
 RegistrarStopped Memory o o' calls c calls' =
-    ((line : List ℕ) × RegistrarDoes o o' calls c calls' line) ⊎ ((calls' ≡ calls) × ((o' ≡ o) ⊎ IsToRegister c (AskedInVain o o')))
+    ((line : List ℕ) × RegistrarDoes o o' calls c calls' line) ⊎ ((calls' ≡ calls) × ((o' ≡ o) ⊎ IsToRegister c (AskedInVain o o' calls)))
 
 -- ---- a session
 

@@ -3,6 +3,7 @@
 ghost use Rattle.std.specs.Prelude.{◌≡◌, ◌≢◌, ◌⊎◌, ℕ, List, Option, Err, IfOk, IfErr, string_bytes};
 ghost use Rattle.kl_exclude.specs.Told.{MakerTold};
 ghost use Rattle.kl_registrar.specs.Asking.{Asked};
+ghost use Rattle.kl_registrar.specs.Records.{IsFull};
 ghost use Rattle.kl_session.specs.Outside.{outside};
 ghost use Rattle.kl_session.specs.Calls.{Called};
 ghost use Rattle.kl_session.specs.Registering.{DoesActivate, DoesForget, DoesRecord, DoesRecords, DoesRegister};
@@ -64,7 +65,8 @@ fn enter<Y: Keys>(
     ensures short { IfErr result (λ stop. LeadsTo registrar.old registrar.new (λ calls calls'. (stop ≡ Stop.Memory)
         × (((line : List ℕ) × Called (RegisterAnswers register secret (Y.told keys.old) (Y.told keys.new)) (register_makes register secret)
         (says_blob register.agent) calls calls' line)
-        ⊎ ((calls' ≡ calls) × ((answer : Option (List ℕ)) × Asked (Y.told keys.old) (Y.told keys.new) register.ek register.ak secret answer ⊥))))) }
+        ⊎ ((calls' ≡ calls) × (¬ IsFull calls register.agent)
+        × ((answer : Option (List ℕ)) × Asked (Y.told keys.old) (Y.told keys.new) register.ek register.ak secret answer ⊥))))) }
 {
     let Register {
         agent,

@@ -12,7 +12,7 @@ use crate::agents::{closed_if, kept_if, note_if, op_now};
 use crate::closed::Closed;
 use crate::closing::Close;
 use crate::failing::post_if;
-use crate::openings::take_opening;
+use crate::kept_open::take_one;
 use crate::refusal::Refusal;
 use kl_incr::{Appraised, Parts, Ticket};
 use kl_states::{DropWhy, LostWhy};
@@ -35,7 +35,7 @@ impl Book {
         let reached = self.reaches(&agent, by.boot());
         let noted = closed_if(entry, poll, place, reached, &by);
         note_if(&mut self.agents, &agent, noted);
-        take_opening(&mut self.polls, poll);
+        take_one(&mut self.polls, poll);
         post_if(&mut self.outbox, agent, noted, by.why());
         self.weight += by.weight();
         self.records.push_reserved(by.into_record(poll, current));

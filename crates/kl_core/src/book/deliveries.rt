@@ -18,7 +18,7 @@ use super::{Book, ends};
 use crate::agents::{kept, kept_at, note, note_if, op_now};
 use crate::entry::{Entry, Handed};
 use crate::failing::post_if;
-use crate::handings::{put_handed, take_handed};
+use crate::kept_open::{put_one, take_one};
 use crate::reached::{Target, is_marked, reserve_mark};
 use crate::refusal::Refusal;
 use crate::settlement::Settlement;
@@ -193,7 +193,7 @@ impl Book {
             Err(_) => return Err(Refusal::Memory),
         }
         let number = self.made + 1;
-        match put_handed(&mut self.releases, number, handed) {
+        match put_one(&mut self.releases, number, handed) {
             Ok(()) => {},
             Err(_) => return Err(Refusal::Memory),
         }
@@ -249,7 +249,7 @@ impl Book {
         let entry = kept(&self.agents, &agent);
         let noted = settled_if(entry, number, &handed, outcome, current);
         note_if(&mut self.agents, &agent, noted);
-        take_handed(&mut self.releases, number);
+        take_one(&mut self.releases, number);
         mark_if(&mut self.reached, arrival(entry, number, &handed, outcome));
         post_if(
             &mut self.outbox,

@@ -11,7 +11,7 @@ ghost use Rattle.kl_core.specs.Inner.Steps.{latest_poll};
 use super::{Book, POLL_BYTES, ends};
 use crate::agents::{kept_at, note};
 use crate::entry::{Entry, Opening};
-use crate::openings::put_opening;
+use crate::kept_open::put_one;
 use crate::refusal::Refusal;
 use kl_history::Record;
 use kl_incr::Ticket;
@@ -90,7 +90,7 @@ impl Book {
             nonce,
             place: entry.place,
         };
-        match put_opening(&mut self.polls, poll, opening) {
+        match put_one(&mut self.polls, poll, opening) {
             Ok(()) => {},
             Err(_) => return Err(Refusal::Memory),
         }

@@ -29,20 +29,20 @@ share_terms-requires c =
     let entry = entry_at b.records.items (past_of b.records.items) c.args.agent.now _ c.kept_at-entry.result (c.self.invariant.0.agents_are c.args.agent.now) c.kept_at-entry.ensures in
     rw (← here) (terms_of_entry b.records.items (past_of b.records.items) c.args.agent.now c.kept_at-entry.result entry)
 
-pub put_opening-requires : goal.put_opening-requires
-put_opening-requires c =
+pub put_one-requires : goal.put_one-requires
+put_one-requires c =
     let b = c.self.inside in
     next_is_free b.records.items (past_of b.records.items) b.agents b.polls b.drawn b.begun b.weight _ _ c.self.invariant.0
 
-pub invariant_of-self-in-Err-put_opening : goal.invariant_of-self-in-Err-put_opening
-invariant_of-self-in-Err-put_opening c =
+pub invariant_of-self-in-Err-put_one : goal.invariant_of-self-in-Err-put_one
+invariant_of-self-in-Err-put_one c =
     let b = c.self.inside in
     rw c.reserve.ensures.items (
-      book_roomier b.records.items (past_of b.records.items) b.agents b.polls c.put_opening.new.polls b.drawn b.begun b.weight _ _ _ c.self.invariant.0 c.in-Err-put_opening.ensures.same
+      book_roomier b.records.items (past_of b.records.items) b.agents b.polls c.put_one.new.kept b.drawn b.begun b.weight _ _ _ c.self.invariant.0 c.in-Err-put_one.ensures.same
           (omega (arith, c.reserve.ensures.capacity)),
       record {
         posted = c.reserve-2.ensures.posted ∙ c.self.invariant.1.posted;
-        room = let len = ap (λ (es : List (ℕ × Opening)). length es) c.in-Err-put_opening.ensures.same in omega (arith, c.in-Ok-reserve.ensures.room, c.ends-2.ensures);
+        room = let len = ap (λ (es : List (ℕ × Opening)). length es) c.in-Err-put_one.ensures.same in omega (arith, c.in-Ok-reserve.ensures.room, c.ends-2.ensures);
       },
       c.self.invariant.2,
     )
@@ -66,10 +66,10 @@ invariant_of-self-2 c =
     let idle = idle_of b.records.items (past_of b.records.items) c.args.agent.now c.kept_at-entry.result entry may in
     let up : Updates (slice_cmp nat_cmp) c.self.inside.agents c.note.new.agents c.args.agent.now (Some (polled (c.self.inside.begun + 1) c.args.now c.kept_at-entry.result)) =
     rw (← c.polled.ensures) c.note.ensures.updates in
-    let spare : btree_map_len c.put_opening.new.polls + btree_map_len c.self.inside.releases ≤ c.reserve-2.new.self.spare =
-    omega (arith, c.in-Ok-put_opening.ensures.len, c.in-Ok-reserve.ensures.room, c.ends-2.ensures) in
+    let spare : btree_map_len c.put_one.new.kept + btree_map_len c.self.inside.releases ≤ c.reserve-2.new.self.spare =
+    omega (arith, c.in-Ok-put_one.ensures.len, c.in-Ok-reserve.ensures.room, c.ends-2.ensures) in
     let book =
-    book_begun b.records.items (past_of b.records.items) b.agents c.note.new.agents b.polls c.put_opening.new.polls b.drawn b.begun b.weight _ _ _ (b.begun + 1) c.args.agent.now c.args.nonce c.args.now
+    book_begun b.records.items (past_of b.records.items) b.agents c.note.new.agents b.polls c.put_one.new.kept b.drawn b.begun b.weight _ _ _ (b.begun + 1) c.args.agent.now c.args.nonce c.args.now
     c.kept_at-entry.result
     c.self.invariant.0
     refl
@@ -84,8 +84,8 @@ invariant_of-self-2 c =
     (rw here c.in_ok-check_begin.ensures.bytes)
     (omega (arith, c.in-Ok.ensures.ok, c.ends.ensures)) in
     rw (c.push_reserved.ensures.items, c.push_reserved.ensures.capacity, c.reserve.ensures.items) (
-      in_order b.records.items _ c.note.new.agents c.put_opening.new.polls b.drawn _ b.weight _ _ book,
-      told_more b.records.items _ b.outbox _ b.polls c.put_opening.new.polls _ _ None refl c.self.invariant.1 c.reserve-2.ensures.posted spare,
+      in_order b.records.items _ c.note.new.agents c.put_one.new.kept b.drawn _ b.weight _ _ book,
+      told_more b.records.items _ b.outbox _ b.polls c.put_one.new.kept _ _ None refl c.self.invariant.1 c.reserve-2.ensures.posted spare,
       handing_changed b.records.items _ b.agents c.note.new.agents b.releases b.reached b.drawn b.drawn b.made c.self.invariant.2 book.legal refl refl (no_less b.drawn)
           c.args.agent.now c.kept_at-entry.result (polled (b.begun + 1) c.args.now c.kept_at-entry.result) refl c.kept_at-entry.ensures refl refl (λ k is. inl is) up,
     )

@@ -55,21 +55,21 @@ invariant_of-self c =
     let book =
     book_now b.records.items (past_of b.records.items) b.agents c.args.ticket c.args.by (length b.records.items) c.reaches-reached.result c.is_some-current.result
     c.self.invariant.0.agents_are current (rw here c.requires.given) c.requires.holds o.0 o.1 tells
-    c.note_if.new.agents b.polls c.take_opening.new.polls b.drawn b.begun b.weight _ _
+    c.note_if.new.agents b.polls c.take_one.new.kept b.drawn b.begun b.weight _ _
     c.self.invariant.0
     (rw (← c.weight.ensures.bytes) c.weight.ensures.most)
     changed
     c.note_if.ensures.len
-    (rw (← c.poll-poll.ensures) c.take_opening.ensures.updates)
-    c.take_opening.ensures.len in
+    (rw (← c.poll-poll.ensures) c.take_one.ensures.updates)
+    c.take_one.ensures.len in
     rw (c.push_reserved.ensures.items, c.push_reserved.ensures.capacity, c.into_record.ensures, c.poll-poll.ensures, c.weight.ensures.bytes) (
-      in_order b.records.items _ c.note_if.new.agents c.take_opening.new.polls b.drawn b.begun _ _ _ book,
-      told_more b.records.items _ b.outbox c.post_if.new.outbox b.polls c.take_opening.new.polls _ _ _
+      in_order b.records.items _ c.note_if.new.agents c.take_one.new.kept b.drawn b.begun _ _ _ book,
+      told_more b.records.items _ b.outbox c.post_if.new.outbox b.polls c.take_one.new.kept _ _ _
           (fails_now b.records.items (past_of b.records.items) b.agents c.args.ticket c.args.by (length b.records.items) c.reaches-reached.result c.is_some-current.result
           c.self.invariant.0.agents_are current (rw here c.requires.given) c.requires.holds o.0 o.1 tells)
           c.self.invariant.1
           (rw (← c.agent-agent.ensures, ← c.poll-poll.ensures, ← placed, ← c.kept_if-entry.ensures, ← c.closed_if-noted.ensures, ← c.why.ensures) c.post_if.ensures.posted)
-          (omega (arith, c.take_opening.ensures.len, c.post_if.ensures.spare, c.self.invariant.1.room)),
+          (omega (arith, c.take_one.ensures.len, c.post_if.ensures.spare, c.self.invariant.1.room)),
       handing_closed b.records.items c.args.ticket.agent c.args.ticket.poll c.reaches-reached.result c.is_some-current.result c.args.by b.agents c.note_if.new.agents b.releases b.reached b.drawn b.made
           _ c.self.invariant.2 book.legal
           (λ e is. (entry_now b.records.items (past_of b.records.items) b.agents c.args.ticket.agent c.args.ticket.generation c.is_some-current.result c.self.invariant.0.agents_are current e is).0)

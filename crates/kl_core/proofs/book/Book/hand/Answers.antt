@@ -31,23 +31,23 @@ invariant_of-self c =
           (λ t is. (same t).1 ∙ is) (λ t. (same t).0),
     )
 
-pub put_handed-requires : goal.put_handed-requires
-put_handed-requires c =
+pub put_one-requires : goal.put_one-requires
+put_one-requires c =
     let b = c.self.inside in
     next_is_unmade b.records.items (past_of b.records.items) b.agents b.releases b.reached b.drawn b.made c.self.invariant.0.legal c.self.invariant.2
 
-pub invariant_of-self-in-Err-put_handed : goal.invariant_of-self-in-Err-put_handed
-invariant_of-self-in-Err-put_handed c =
+pub invariant_of-self-in-Err-put_one : goal.invariant_of-self-in-Err-put_one
+invariant_of-self-in-Err-put_one c =
     let b = c.self.inside in
     let reserves = c.in-Ok.ensures.place in
-    let len : btree_map_len c.put_handed.new.releases ≡ btree_map_len c.self.inside.releases = ap (λ (es : List (ℕ × Handed)). length es) c.in-Err-put_handed.ensures.same in
+    let len : btree_map_len c.put_one.new.kept ≡ btree_map_len c.self.inside.releases = ap (λ (es : List (ℕ × Handed)). length es) c.in-Err-put_one.ensures.same in
     rw c.reserve_release.ensures.items (
       subst (λ (n : ℕ). IsBook c.self.inside.records.items (past_of c.self.inside.records.items) c.self.inside.agents c.self.inside.polls c.self.inside.drawn c.self.inside.begun c.self.inside.weight (vec_capacity c.reserve_release.new.records) n)
           (sym len)
           (book_roomier b.records.items (past_of b.records.items) b.agents b.polls b.polls b.drawn b.begun b.weight _ _ _ c.self.invariant.0 refl (omega (arith, c.reserve_release.ensures.capacity))),
       record { posted = c.reserve_release.ensures.posted ∙ c.self.invariant.1.posted; room = omega (arith, c.in-Ok.ensures.notices, c.ends-ends.ensures, len) },
-      handing_roomier b.records.items (past_of b.records.items) b.agents b.releases c.put_handed.new.releases b.reached c.reserve_release.new.reached b.drawn b.made c.self.invariant.2
-          c.in-Err-put_handed.ensures.same reserves.places reserves.marks,
+      handing_roomier b.records.items (past_of b.records.items) b.agents b.releases c.put_one.new.kept b.reached c.reserve_release.new.reached b.drawn b.made c.self.invariant.2
+          c.in-Err-put_one.ensures.same reserves.places reserves.marks,
     )
 
 pub invariant_of-self-2 : goal.invariant_of-self-2
@@ -64,21 +64,21 @@ invariant_of-self-2 c =
     rw (← c.handed.ensures) c.note.ensures.updates in
     let book =
     book_released b.records.items (past_of b.records.items) b.agents c.note.new.agents b.polls b.drawn b.begun b.weight (vec_capacity b.records) (vec_capacity c.reserve_release.new.records)
-    (btree_map_len b.releases) (btree_map_len c.put_handed.new.releases) (b.made + 1) h.agent h.generation h.pass.poll e
+    (btree_map_len b.releases) (btree_map_len c.put_one.new.kept) (b.made + 1) h.agent h.generation h.pass.poll e
     c.self.invariant.0
     entry
     (rule_at b.records.items (past_of b.records.items) h ready (b.made + 1) (ap (λ n. n + 1) c.self.invariant.2.made_is))
     up
     c.note.ensures.len
-    c.in-Ok-put_handed.ensures.len
+    c.in-Ok-put_one.ensures.len
     (rw here c.requires.room)
     (omega (arith, c.in-Ok.ensures.records, c.ends-ends.ensures)) in
     rw (c.push_reserved.ensures.items, c.push_reserved.ensures.capacity, c.reserve_release.ensures.items) (
       in_order b.records.items _ c.note.new.agents b.polls b.drawn b.begun b.weight _ _ book,
-      told_more b.records.items (release_with (b.made + 1) h) b.outbox c.reserve_release.new.outbox b.polls b.polls (btree_map_len b.releases) (btree_map_len c.put_handed.new.releases) None refl
+      told_more b.records.items (release_with (b.made + 1) h) b.outbox c.reserve_release.new.outbox b.polls b.polls (btree_map_len b.releases) (btree_map_len c.put_one.new.kept) None refl
           c.self.invariant.1 c.reserve_release.ensures.posted
-          (omega (arith, c.in-Ok-put_handed.ensures.len, c.in-Ok.ensures.notices, c.ends-ends.ensures)),
-      handing_in_order b.records.items _ c.note.new.agents c.put_handed.new.releases c.reserve_release.new.reached b.drawn (b.made + 1)
+          (omega (arith, c.in-Ok-put_one.ensures.len, c.in-Ok.ensures.notices, c.ends-ends.ensures)),
+      handing_in_order b.records.items _ c.note.new.agents c.put_one.new.kept c.reserve_release.new.reached b.drawn (b.made + 1)
           (handing_released b.records.items (past_of b.records.items) b.agents b.releases b.reached c.reserve_release.new.reached b.drawn b.made h e (b.made + 1) c.self.invariant.2 ready book.legal
-          c.kept_at-entry.ensures reserves c.note.new.agents c.put_handed.new.releases refl up c.in-Ok-put_handed.ensures.updates),
+          c.kept_at-entry.ensures reserves c.note.new.agents c.put_one.new.kept refl up c.in-Ok-put_one.ensures.updates),
     )

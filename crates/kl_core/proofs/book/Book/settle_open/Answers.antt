@@ -22,11 +22,11 @@ invariant_of-self c =
     (rw (here, ← c.number-number.ensures) c.in-Some.ensures)
     c.is_some-current.result
     (rw (here, c.is_some-current.ensures, ← c.agent-agent.ensures, ← c.generation.ensures) c.current_entry.ensures.current)
-    c.note_if.new.agents c.take_handed.new.releases c.mark_if.new.reached b.outbox c.post_if.new.outbox c.self.invariant.1
+    c.note_if.new.agents c.take_one.new.kept c.mark_if.new.reached b.outbox c.post_if.new.outbox c.self.invariant.1
     (rw (← c.agent-agent.ensures, ← c.number-number.ensures, ← c.kept-entry.ensures, ← c.settled_if-noted.ensures) c.note_if.ensures.noted)
     c.note_if.ensures.len
-    (rw (← c.number-number.ensures) c.take_handed.ensures.updates)
-    c.take_handed.ensures.len
+    (rw (← c.number-number.ensures) c.take_one.ensures.updates)
+    c.take_one.ensures.len
     (rw (← c.agent-agent.ensures, ← c.number-number.ensures, ← c.kept-entry.ensures, ← c.arrival.ensures) c.mark_if.ensures)
     (rw (← c.agent-agent.ensures, ← c.number-number.ensures, ← c.kept-entry.ensures, ← c.settled_if-noted.ensures, ← c.only_if.ensures, ← c.settle_why.ensures) c.post_if.ensures.posted)
     c.post_if.ensures.spare)

@@ -1,5 +1,6 @@
 -- What a JSON policy's value says, by the values in memory.
-use Rattle.std.proofs.Common.{◌≡◌, ℕ, zero, suc, ◌<◌, ◌≤◌, Bool, Option, Some, None, option_map, option_and_then, Result, Ok, Err, IfOk, List, [], ◌∷◌, ◌++◌, length, get_or, refl, sym, ap, subst, ◌∙◌, arith, eqb-true, codes, string_bytes, IsSome, IsTrue, is_some, ◌↔◌, ◌==◌}
+use Rattle.std.proofs.Common.{◌≡◌, ℕ, zero, suc, ◌<◌, ◌≤◌, Bool, Option, Some, None, option_map, option_and_then, Result, Ok, Err, IfOk, List, [], ◌∷◌, ◌++◌, length, get_or, inl, inr, refl, sym, ap, subst, ◌∙◌, arith, eqb-true, codes, string_bytes, IsSome, IsTrue, is_some, ◌↔◌, ◌==◌}
+use Rattle.std.proofs.lemmas.List.{append-nil}
 use Rattle.std.proofs.lemmas.List.Elements.{All-nil, All-cons}
 use Rattle.std.proofs.lemmas.List.Sums.{fold_push}
 use Rattle.std.specs.Cmp.Lexicographic.{slice_cmp, nat_list_cmp_total}
@@ -19,7 +20,8 @@ use Rattle.kl_entry.specs.Lines.{IsFirstFailing}
 use Rattle.kl_policy.specs.Digests.{DigestMap, SpellsDigest}
 use Rattle.kl_policy.specs.Json.{Listed, texts_in, as_texts, listed_in, as_blank, with_path, map_of, IsDecoded, IsGood, IsFirstBadDigest, HasListing, HasParts, IsPartsFault, optional, read_or}
 use Rattle.kl_policy.specs.Inner.JsonParts.{Entry, AreTexts, SpellsValue, SpellsAll, IsCopyFault, IsTextsFault, IsListingFault, IsRestFault, IsParseFault, IsCompileFault}
-use Rattle.kl_policy.specs.Making.{IsJsonFault}
+use Rattle.kl_policy.specs.Making.{IsJsonFault, IsOfPatterns, IsExcludeFault, AsksFront, Makes}
+use Rattle.kl_policy.specs.Reading.{IsJson}
 use Rattle.kl_policy.specs.declared.fault.Limit.TheVariants.{Paths, Patterns, PatternBytes}
 use Rattle.kl_policy.specs.declared.fault.PolicyFault.{PolicyFault}
 use Rattle.kl_policy.specs.declared.fault.PolicyFault.TheVariants.{Json, Line, BadDigest, Unsupported, Limit as Over, Exclude, Memory}
@@ -312,7 +314,7 @@ value_fault text d told reads (BadDigest i j) h = record { value = d; reads = re
 value_fault text d told reads (Unsupported name) h = record { value = d; reads = reads; fault = h; unasked = refl }
 value_fault text d told reads (Over limit) h = record { value = d; reads = reads; fault = h; unasked = refl }
 value_fault text d told reads (Exclude why) h = absurd h
-value_fault text d told reads Memory h = record { faults = refl; refused = refl }
+value_fault text d told reads Memory h = inl refl
 
 -- nor is a text one that has no value
 pub parse_fault : (text : List ℕ) (told : MakerTold) (fault : PolicyFault) → IsParseFault text fault → IsJsonFault text told told fault
@@ -326,7 +328,21 @@ parse_fault text told (BadDigest i j) h = absurd h
 parse_fault text told (Unsupported name) h = absurd h
 parse_fault text told (Over limit) h = absurd h
 parse_fault text told (Exclude why) h = absurd h
-parse_fault text told Memory h = record { faults = refl; refused = refl }
+parse_fault text told Memory h = inl refl
+
+of_patterns : (text : List ℕ) (d : Data) (digests : DigestMap) (patterns : List (List ℕ)) (passes : Bool) (So : List (List ℕ) → Type 0) → Reads text d
+    → HasParts d digests patterns passes → So patterns → IsOfPatterns text So
+of_patterns text d digests patterns passes So reads parts so =
+    record { value = d; reads = reads; digests = digests; patterns = patterns; passes = passes; parts = parts; so = so }
+
+-- where memory ran out behind the last pattern, all were asked
+pub asks_all : (patterns : List (List ℕ)) (old new : MakerTold) → Makes patterns old new → AsksFront patterns old new
+asks_all patterns old new made = record { front = patterns; rest = []; cut = sym (append-nil patterns); asked = made.asked; refused = made.refused }
+
+pub memory_fault : (text : List ℕ) (digests : DigestMap) (patterns : List (List ℕ)) (passes : Bool) (old new : MakerTold) → IsJson text digests patterns passes → Makes patterns old new
+    → IsJsonFault text old new Memory
+memory_fault text digests patterns passes old new is made =
+    inr (of_patterns text is.value digests patterns passes (λ ps. AsksFront ps old new) is.reads is.parts (asks_all patterns old new made))
 
 -- nor one whose patterns are none
 pub patterns_fault : (text : List ℕ) (d : Data) (digests : DigestMap) (patterns : List (List ℕ)) (passes : Bool) (old new : MakerTold) → Reads text d → HasParts d digests patterns passes
@@ -337,8 +353,9 @@ patterns_fault text d digests patterns passes old new reads parts (BadDigest i j
 patterns_fault text d digests patterns passes old new reads parts (Unsupported name) h = absurd h
 patterns_fault text d digests patterns passes old new reads parts (Over limit) h = absurd h
 patterns_fault text d digests patterns passes old new reads parts (Exclude (Syntax place)) h =
-    record { value = d; reads = reads; digests = digests; patterns = patterns; passes = passes; parts = parts; fault = h }
+    of_patterns text d digests patterns passes (λ ps. IsExcludeFault ps old new (Syntax place)) reads parts h
 patterns_fault text d digests patterns passes old new reads parts (Exclude (TooLarge place)) h =
-    record { value = d; reads = reads; digests = digests; patterns = patterns; passes = passes; parts = parts; fault = h }
+    of_patterns text d digests patterns passes (λ ps. IsExcludeFault ps old new (TooLarge place)) reads parts h
 patterns_fault text d digests patterns passes old new reads parts (Exclude none_left) h = absurd h
-patterns_fault text d digests patterns passes old new reads parts Memory h = h
+patterns_fault text d digests patterns passes old new reads parts Memory h =
+    inr (of_patterns text d digests patterns passes (λ ps. AsksFront ps old new) reads parts h)

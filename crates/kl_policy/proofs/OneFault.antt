@@ -352,7 +352,7 @@ json_named text old new (BadDigest i j) h settled = inr (h.value, h.reads, parts
 json_named text old new (Unsupported name) h settled = inr (h.value, h.reads, parts_named h.value (Unsupported name) h.fault settled)
 json_named text old new (Over limit) h settled = inr (h.value, h.reads, parts_named h.value (Over limit) h.fault settled)
 json_named text old new (Exclude (Syntax place)) h settled =
-    inr (h.value, h.reads, syntax_named h.value h.digests h.patterns h.passes place h.parts h.fault.first.0)
+    inr (h.value, h.reads, syntax_named h.value h.digests h.patterns h.passes place h.parts h.so.first.0)
 json_named text old new (Exclude (TooLarge place)) h settled = absurd (false≢true settled)
 json_named text old new (Exclude none_left) h settled = absurd h
 json_named text old new Memory h settled = absurd (false≢true settled)

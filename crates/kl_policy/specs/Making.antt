@@ -1,5 +1,5 @@
 -- What reading a policy asks of what makes its patterns, and why a text is no policy.
-use Rattle.std.specs.Prelude.{◌≡◌, ℕ, List, Bool, true, false, Err, ⊤}
+use Rattle.std.specs.Prelude.{◌≡◌, ◌⊎◌, ℕ, List, ◌++◌, Bool, true, false, Err, ⊤}
 use Rattle.serde_json.specs.Data.{Data}
 use Rattle.kl_exclude.specs.Compiled.{IsFaultOf, AreAsked}
 use Rattle.kl_exclude.specs.Told.{MakerTold, Logs, RefusesNone}
@@ -27,15 +27,32 @@ pub record IsExcludeFault (patterns : List (List ℕ)) (old new : MakerTold) (wh
   pub up_to : AreAsked {V = ⊤} patterns (Err why) all
   pub asked : Logs old new all
 
--- of a text whose parts are good: why its patterns are none
-pub record IsPatternsFault (text : List ℕ) (old new : MakerTold) (why : ExcludeFault) : Type 0 where
+-- memory ran out: the first of these patterns were asked once each, in order, and none was refused as too large
+pub record AsksFront (patterns : List (List ℕ)) (old new : MakerTold) : Type 0 where
+  pub front : List (List ℕ)
+  pub rest : List (List ℕ)
+  pub cut : patterns ≡ front ++ rest
+  pub asked : Logs old new front
+  pub refused : RefusesNone old new
+
+-- the parts of the text are good, and so it is with its patterns
+pub record IsOfPatterns (text : List ℕ) (So : List (List ℕ) → Type 0) : Type 0 where
   pub value : Data
   pub reads : Reads text value
   pub digests : DigestMap
   pub patterns : List (List ℕ)
   pub passes : Bool
   pub parts : HasParts value digests patterns passes
-  pub fault : IsExcludeFault patterns old new why
+  pub so : So patterns
+
+-- of a text whose parts are good: why its patterns are none
+abbrev pub IsPatternsFault : List ℕ → MakerTold → MakerTold → ExcludeFault → Type 0
+IsPatternsFault text old new why = IsOfPatterns text (λ patterns. IsExcludeFault patterns old new why)
+
+-- what was asked where memory ran out over a text: nothing; or the first patterns of a JSON policy whose parts are good
+abbrev pub AsksSome : PolicyKind → List ℕ → MakerTold → MakerTold → Type 0
+AsksSome kind.Flat text old new = new ≡ old
+AsksSome kind.Json text old new = (new ≡ old) ⊎ IsOfPatterns text (λ patterns. AsksFront patterns old new)
 
 -- of a text that is JSON: why its value is no policy, for which no pattern is asked
 pub record IsValueFault (text : List ℕ) (old new : MakerTold) (why : PolicyFault) : Type 0 where
@@ -50,7 +67,7 @@ IsJsonFault text old new (Json NotJson) = IsNotJson text × (new ≡ old)
 IsJsonFault text old new (Exclude (Syntax place)) = IsPatternsFault text old new (Syntax place)
 IsJsonFault text old new (Exclude (TooLarge place)) = IsPatternsFault text old new (TooLarge place)
 IsJsonFault text old new (Exclude no_memory_left) = ⊥
-IsJsonFault text old new Memory = RefusesNone old new
+IsJsonFault text old new Memory = AsksSome kind.Json text old new
 IsJsonFault text old new fault = IsValueFault text old new fault
 
 -- why a text is no policy of its form

@@ -50,7 +50,8 @@ impl Content {
 
     /// Whether this is what that text says in that form: it was read from it.
     pub fn is_of(&self, kind: PolicyKind, text: &str) -> bool
-        ensures { IsTrue result → IsPolicy kind text.now self.now }
+        ensures is { IsTrue result → IsPolicy kind text.now self.now }
+        ensures only { IsPolicy kind text.now self.now → IsTrue result }
     {
         self.kind == kind && self.source.as_str() == text
     }

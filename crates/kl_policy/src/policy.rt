@@ -89,7 +89,8 @@ impl Policy {
 
     /// Whether the policy was read from that text in that form, so that it is what the text says.
     pub fn is_of(&self, kind: PolicyKind, text: &str) -> bool
-        ensures { IsTrue result → IsPolicy kind text.now self.now }
+        ensures is { IsTrue result → IsPolicy kind text.now self.now }
+        ensures only { IsPolicy kind text.now self.now → IsTrue result }
     {
         self.content().is_of(kind, text)
     }

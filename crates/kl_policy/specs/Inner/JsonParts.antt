@@ -6,12 +6,12 @@ use Rattle.serde_json.specs.Data.{Data}
 use Rattle.serde_json.specs.Find.{as_str}
 use Rattle.serde_json.specs.View.{view}
 use Rattle.serde_json.specs.declared.value.Value.{Value}
-use Rattle.kl_exclude.specs.Told.{MakerTold, RefusesNone}
+use Rattle.kl_exclude.specs.Told.{MakerTold}
 use Rattle.kl_exclude.specs.declared.fault.ExcludeFault.TheVariants.{Syntax, TooLarge}
 use Rattle.kl_json.specs.Reading.{IsNotJson}
 use Rattle.kl_json.specs.declared.fault.JsonFault.TheVariants.{NotJson}
 use Rattle.kl_entry.specs.Lines.{IsFirstFailing}
-use Rattle.kl_policy.specs.Making.{IsExcludeFault}
+use Rattle.kl_policy.specs.Making.{IsExcludeFault, AsksFront}
 use Rattle.kl_policy.specs.Digests.{SpellsDigest}
 use Rattle.kl_policy.specs.Json.{Listed, as_texts, IsGood, IsFirstBadDigest, IsPartsFault, IsShort, HasSomeDigests}
 use Rattle.kl_policy.specs.declared.fault.Limit.TheVariants.{PatternBytes}
@@ -70,5 +70,5 @@ IsParseFault text _ = ⊥
 abbrev pub IsCompileFault : List (List ℕ) → MakerTold → MakerTold → PolicyFault → Type 0
 IsCompileFault texts old new (Exclude (Syntax place)) = IsExcludeFault texts old new (Syntax place)
 IsCompileFault texts old new (Exclude (TooLarge place)) = IsExcludeFault texts old new (TooLarge place)
-IsCompileFault texts old new Memory = RefusesNone old new
+IsCompileFault texts old new Memory = AsksFront texts old new
 IsCompileFault texts old new _ = ⊥

@@ -1,6 +1,8 @@
 -- What excludes each rule on the quote, and which rule is the first that applies.
-use Rattle.std.proofs.Common.{◌≡◌, ◌≢◌, ℕ, ◌*◌, Bool, true, false, List, length, count_ones, Option, Some, Ok, Err, refl, sym, ◌∙◌, subst, inl, inr}
-use Rattle.std.proofs.lemmas.Bool.{false≢true}
+use Rattle.std.proofs.Common.{◌≡◌, ◌≢◌, ℕ, ◌*◌, Bool, true, false, List, length, count_ones, not, Option, Some, Ok, Err, refl, sym, ◌∙◌, subst, inl, inr}
+use Rattle.std.proofs.lemmas.Bool.{true≢false, false≢true, not-true, not-false}
+use Rattle.std.specs.Str.{bytes_eq}
+use Rattle.std.proofs.lemmas.Slice.Eq.{bytes_eq-Decides}
 use Rattle.sha2.specs.Sha256.{sha256}
 use Rattle.kl_bank.specs.declared.bank.Bank.{Bank as PcrBank}
 use Rattle.kl_bank.specs.Banks.{alg_of, name_of, size_of}
@@ -34,6 +36,14 @@ values_unique quote v w (a, s, q) (b, t, p) = (quote_unique quote a s v b t w q 
 pub set_is : (ss : List Selection) (alg mask a m : ℕ) → OneSet ss alg mask → alg ≡ a → mask ≡ m → OneSet ss a m
 set_is ss alg mask a m set e f =
     subst (λ (x : ℕ). OneSet ss x m) e (subst (λ (y : ℕ). OneSet ss alg y) f set)
+
+-- ---- What `!=` says of two lists of bytes
+
+pub same_bytes : (xs ys : List ℕ) (ne : Bool) → ne ≡ not (bytes_eq xs ys) → ne ≡ false → xs ≡ ys
+same_bytes xs ys ne is no_other = (bytes_eq-Decides xs ys).0 (not-false _ (sym is ∙ no_other))
+
+pub other_bytes : (xs ys : List ℕ) (ne : Bool) → ne ≡ not (bytes_eq xs ys) → ne ≡ true → xs ≢ ys
+other_bytes xs ys ne is other = λ e. true≢false (sym ((bytes_eq-Decides xs ys).1 e) ∙ not-true _ (sym is ∙ other))
 
 -- ---- What excludes each rule
 

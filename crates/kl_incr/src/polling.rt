@@ -1,10 +1,12 @@
 //! The appraisal of a poll's evidence.
 
-ghost use Rattle.std.specs.Prelude.{◌≡◌, ◌⊎◌, ◌+◌, ◌≤◌, IfOk, IfErr, length, Some, None, false};
+ghost use Rattle.std.specs.Prelude.{◌≡◌, ◌⊎◌, ◌+◌, ◌≤◌, ℕ, IfOk, IfErr, length, Some, None, false};
 ghost use Rattle.kl_io.specs.Calls.{HasCause};
 ghost use Rattle.kl_entry.specs.Lines.{lines_of};
+ghost use Rattle.kl_entry.specs.declared.fault.LineFault.{LineFault};
 ghost use Rattle.kl_appraise.specs.Asking.{Asked, AskedOnce};
 ghost use Rattle.kl_appraise.specs.Evidence.{check_under};
+ghost use Rattle.kl_appraise.specs.ListRules.{IsFirstBadLine};
 ghost use Rattle.kl_appraise.specs.QuoteRules.{IsAnswered, IsUnasked};
 ghost use Rattle.kl_incr.specs.Appraisal.{IsBlamed, IsIdle};
 
@@ -50,6 +52,8 @@ pub fn appraise_from<Y: Keys, L: Ledger>(
     // At most as many entries are measured as the reply's list has lines, and none where there is no outcome, unless
     // memory ran out while exclude patterns were searched for.
     ensures cost { steps.new ≤ steps.old + length (lines_of evidence.list) }
+    // None is, where a line is no entry.
+    ensures unread { (place : ℕ) (fault : LineFault) → IsFirstBadLine evidence.list place fault → steps.new ≡ steps.old }
     ensures idle { IfErr result (λ e. IsIdle e.1 ticket steps.old steps.new) }
 {
     let kept = ticket.kept();

@@ -23,11 +23,11 @@ alone (Err why) o s s' c Done does short = subst (λ (stop : Stop). VerifierStop
 ])
 
 -- a command whose policy is read
-pub unread : {X : Type 0} (r : Result X Stop) (o o' : Outside) (kind : PolicyKind) (s s' : VerifierFields) (c : VerifierCommandFields) (Done : List ℕ → Type 0)
-    → ((line : List ℕ) → Done line → VerifierDoes o o' s c s' line) → (MadeSome o o' kind → IsToRead c o o') → IfErr r (λ stop. IsUnread stop o o' kind s s' Done)
+pub unread : {X : Type 0} (r : Result X Stop) (o o' : Outside) (kind : PolicyKind) (text : List ℕ) (s s' : VerifierFields) (c : VerifierCommandFields) (Done : List ℕ → Type 0)
+    → ((line : List ℕ) → Done line → VerifierDoes o o' s c s' line) → (MadeSome o o' kind text → IsToRead c o o') → IfErr r (λ stop. IsUnread stop o o' kind text s s' Done)
     → IfErr r (λ why. VerifierStopped why o o' s c s')
-unread (Ok x) o o' kind s s' c Done does reads short = short
-unread (Err why) o o' kind s s' c Done does reads short = subst (λ (stop : Stop). VerifierStopped stop o o' s c s') (sym short.0) (elim short.1 [
+unread (Ok x) o o' kind text s s' c Done does reads short = short
+unread (Err why) o o' kind text s s' c Done does reads short = subst (λ (stop : Stop). VerifierStopped stop o o' s c s') (sym short.0) (elim short.1 [
   | inl did ↦ inl (did.0, does did.0 did.1)
   | inr same ↦ inr (same.0, inr (inr (reads same.1)))
 ])

@@ -16,7 +16,7 @@ use Rattle.kl_core.specs.Endings.{Stops, stop_makes, Removes, remove_makes}
 use Rattle.kl_core.specs.Begins.{BeginAnswers, begin_makes}
 use Rattle.kl_core.specs.Shares.{ShareFields, Releases, release_makes}
 use Rattle.kl_core.specs.Books.{with_marks}
-use Rattle.kl_core.specs.Delivering.{marks_of}
+use Rattle.kl_core.specs.Notices.{marks_of}
 use Rattle.kl_core.specs.Answers.{IsAmple, IsAmpleWith, IsOneAnswer}
 use Rattle.kl_core.proofs.OneAnswer.{one_add, one_replace, one_reactivate, one_stop, one_remove, one_begin, one_release, one_state, one_pick, one_mark}
 use Rattle.kl_session.specs.declared.naming.NoTerms.{NoTerms}

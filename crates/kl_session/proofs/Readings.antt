@@ -8,10 +8,12 @@ use Rattle.kl_io.specs.Calls.{Rose}
 use Rattle.kl_io.specs.Told.{WordsTold}
 use Rattle.kl_json.specs.declared.fault.JsonFault.TheVariants.{NotJson, Missing, Kind, Range, Memory as no_memory}
 use Rattle.kl_keys.specs.Told.{KeysTold}
-use Rattle.kl_policy.specs.Making.{AsksFor, IsNoPolicy, IsJsonFault, is_settled}
+use Rattle.kl_policy.specs.Making.{AsksFor, AsksSome, IsNoPolicy, IsJsonFault, is_settled}
 use Rattle.kl_policy.specs.PolicyFields.{PolicyFields}
+use Rattle.kl_policy.specs.Reading.{IsPolicy}
 use Rattle.kl_policy.specs.declared.fault.PolicyFault.{PolicyFault}
 use Rattle.kl_policy.specs.declared.fault.PolicyFault.TheVariants.{Json, Line, BadDigest, Unsupported, Limit as Over, Exclude, Memory}
+use Rattle.kl_policy.proofs.JsonFacts.{memory_fault}
 use Rattle.kl_history.specs.declared.record.Record.{Record}
 use Rattle.kl_history.specs.Records.{History}
 use Rattle.kl_script.specs.declared.command.Add.{Add}
@@ -21,7 +23,7 @@ use Rattle.kl_states.specs.declared.policy_kind.PolicyKind.TheVariants as kind
 use Rattle.kl_session.specs.declared.naming.NoTerms.{NoTerms}
 use Rattle.kl_session.specs.declared.naming.NoTerms.TheVariants.{Policy, Mask, Static}
 use Rattle.kl_session.specs.Outside.{Outside, LeavesRest, outside}
-use Rattle.kl_session.specs.Stopped.{MadeSome, AsksSome}
+use Rattle.kl_session.specs.Stopped.{MadeSome}
 use Rattle.kl_session.specs.Terms.{Reads, Refuses, NamesNoTerms}
 use Rattle.kl_session.specs.Unique.{GoesOn}
 use Rattle.kl_session.specs.Inner.Naming.{Tells, IsPolicyFault, IsTermsFault}
@@ -55,10 +57,11 @@ json_later text a b (Line place) h = absurd h.fault
 json_later text a b (BadDigest i j) h = omega (arith, ap (λ (m : MakerTold). m.calls.faults) h.unasked)
 json_later text a b (Unsupported name) h = omega (arith, ap (λ (m : MakerTold). m.calls.faults) h.unasked)
 json_later text a b (Over limit) h = omega (arith, ap (λ (m : MakerTold). m.calls.faults) h.unasked)
-json_later text a b (Exclude (Syntax place)) h = omega (arith, h.fault.first.1.faults)
-json_later text a b (Exclude (TooLarge place)) h = let much = too_much a b _ h.fault.first.1 in much.1.later
+json_later text a b (Exclude (Syntax place)) h = omega (arith, h.so.first.1.faults)
+json_later text a b (Exclude (TooLarge place)) h = let much = too_much a b _ h.so.first.1 in much.1.later
 json_later text a b (Exclude none_left) h = absurd h
-json_later text a b Memory h = omega (arith, h.faults)
+json_later text a b Memory (inl same) = omega (arith, ap (λ (m : MakerTold). m.calls.faults) same)
+json_later text a b Memory (inr h) = omega (arith, h.so.refused.faults)
 
 no_policy_later : (k : PolicyKind) (text : List ℕ) (a b : MakerTold) (f : PolicyFault) → IsNoPolicy k text a b f → a.calls.faults ≤ b.calls.faults
 no_policy_later kind.Flat text a b f h = omega (arith, ap (λ (m : MakerTold). m.calls.faults) h.1)
@@ -80,7 +83,7 @@ settled kind.Json text a b (Json no_memory) calm h named = absurd h.fault
 settled k text a b (Exclude (Syntax n)) calm h named = refl
 settled kind.Flat text a b (Exclude (TooLarge n)) calm h named = absurd h.0
 settled kind.Json text a b (Exclude (TooLarge n)) calm h named =
-    let much = too_much a b _ h.fault.first.1 in absurd (calm (omega (arith, much.1.faults)))
+    let much = too_much a b _ h.so.first.1 in absurd (calm (omega (arith, much.1.faults)))
 settled kind.Flat text a b (Exclude none_left) calm h named = absurd h.0
 settled kind.Json text a b (Exclude none_left) calm h named = absurd h
 
@@ -115,28 +118,28 @@ no_terms_on o o' H a Static h = reads_on o o' H a.kind h.0.0 h.0.2
 -- ---- where memory ran out behind a reading
 
 -- nothing was asked
-none_asked : (k : PolicyKind) (a b : MakerTold) → b ≡ a → AsksSome k a b
-none_asked kind.Flat a b same = same
-none_asked kind.Json a b same = record { faults = ap (λ (m : MakerTold). m.calls.faults) same; refused = ap (λ (m : MakerTold). m.refused) same }
+none_asked : (k : PolicyKind) (text : List ℕ) (a b : MakerTold) → b ≡ a → AsksSome k text a b
+none_asked kind.Flat text a b same = same
+none_asked kind.Json text a b same = inl same
 
-all_asked : (k : PolicyKind) (patterns : List (List ℕ)) (a b : MakerTold) → AsksFor k patterns a b → AsksSome k a b
-all_asked kind.Flat patterns a b same = same
-all_asked kind.Json patterns a b made = made.refused
+all_asked : (k : PolicyKind) (text : List ℕ) (p : PolicyFields) (a b : MakerTold) → IsPolicy k text p → AsksFor k p.patterns a b → AsksSome k text a b
+all_asked kind.Flat text p a b is same = same
+all_asked kind.Json text p a b is made = memory_fault text p.digests p.patterns p.passes_violations a b is.says made
 
-pub some_made : (o o' : Outside) (H : History) (k : PolicyKind) (p : PolicyFields) → Reads o o' H k p → MadeSome o o' k
-some_made o o' H k p r = elim r.asked [
-  | inl made ↦ record { asked = all_asked k p.patterns o.maker o'.maker made; rest = r.rest }
-  | inr same ↦ record { asked = none_asked k o.maker o'.maker same.1; rest = r.rest }
+pub some_made : (o o' : Outside) (H : History) (k : PolicyKind) (text : List ℕ) (p : PolicyFields) → IsPolicy k text p → Reads o o' H k p → MadeSome o o' k text
+some_made o o' H k text p is r = elim r.asked [
+  | inl made ↦ record { asked = all_asked k text p o.maker o'.maker is made; rest = r.rest }
+  | inr same ↦ record { asked = none_asked k text o.maker o'.maker same.1; rest = r.rest }
 ]
 
 -- memory ran out over the text
-pub read_in_part : (k : PolicyKind) (text : List ℕ) (a b : MakerTold) → IsNoPolicy k text a b Memory → AsksSome k a b
+pub read_in_part : (k : PolicyKind) (text : List ℕ) (a b : MakerTold) → IsNoPolicy k text a b Memory → AsksSome k text a b
 read_in_part kind.Flat text a b h = h.1
 read_in_part kind.Json text a b h = h
 
 -- or over one owner more of a policy that was installed
-pub none_read : (o o' : Outside) (k : PolicyKind) → Tells o o' o.maker o.maker → MadeSome o o' k
-none_read o o' k tells = record { asked = none_asked k o.maker o'.maker tells.after_is; rest = tells.rest }
+pub none_read : (o o' : Outside) (k : PolicyKind) (text : List ℕ) → Tells o o' o.maker o.maker → MadeSome o o' k text
+none_read o o' k text tells = record { asked = none_asked k text o.maker o'.maker tells.after_is; rest = tells.rest }
 
 -- ---- a policy that was installed before
 
@@ -151,12 +154,12 @@ policy_in_terms o o' H a (fault.None Mask) h = absurd h
 policy_in_terms o o' H a (fault.None Static) h = absurd h
 policy_in_terms o o' H a fault.Memory h = h
 
-pub add_unnamed : (o o' : Outside) (a : Add) (s : VerifierFields) (f : NamingFault) → IsTermsFault o o' s.history a f → ((line : List ℕ) × DoesAdd o o' a s s line) ⊎ ((s ≡ s) × MadeSome o o' a.kind)
+pub add_unnamed : (o o' : Outside) (a : Add) (s : VerifierFields) (f : NamingFault) → IsTermsFault o o' s.history a f → ((line : List ℕ) × DoesAdd o o' a s s line) ⊎ ((s ≡ s) × MadeSome o o' a.kind a.policy)
 add_unnamed o o' a s (fault.None why) h = inl (refused_line (no_terms_text why), inr (why, h, (refl, refl)))
 add_unnamed o o' a s fault.Memory h = inr (refl, h)
 
 pub replace_unnamed : (o o' : Outside) (r : Replace) (s : VerifierFields) (f : NamingFault) → IsPolicyFault o o' r.kind r.policy f
-    → ((line : List ℕ) × DoesReplace o o' r s s line) ⊎ ((s ≡ s) × MadeSome o o' r.kind)
+    → ((line : List ℕ) × DoesReplace o o' r s s line) ⊎ ((s ≡ s) × MadeSome o o' r.kind r.policy)
 replace_unnamed o o' r s (fault.None (Policy why)) h = inl (refused_line (no_terms_text (Policy why)), inr (why, h, (refl, refl)))
 replace_unnamed o o' r s (fault.None Mask) h = absurd h
 replace_unnamed o o' r s (fault.None Static) h = absurd h

@@ -49,7 +49,7 @@ pub record IsAnsweredCall {V : Type 0} (items : V → List ℕ) (r : Register) (
 
 abbrev pub IsCutShort : {V : Type 0} → Register → List ℕ → KeysTold → KeysTold → Entries → Log → Result V RegFault → Type 0
 IsCutShort r secret k k' new calls answer =
-    (answer ≡ Err Memory) × Keeps new calls × ((blob : Option (List ℕ)) × Asked k k' r.ek r.ak secret blob ⊥)
+    (answer ≡ Err Memory) × Keeps new calls × (¬ IsFull calls r.agent) × ((blob : Option (List ℕ)) × Asked k k' r.ek r.ak secret blob ⊥)
 
 -- the same question, whose failing is said otherwise
 asked_as : (F G : Type 0) (k k' : KeysTold) (ek ak secret : List ℕ) (answer : Option (List ℕ)) → (F → G) → (G → F)
@@ -98,6 +98,7 @@ module _ {V : Type 0} (items : V → List ℕ) (r : Register) (secret : List ℕ
   register_told (Err Memory) told calls keeps = inr (
     refl,
     subst (λ (e : Entries). Keeps e calls) (sym told.refused) keeps,
+    λ full. cc ((told.full calls keeps).1 full),
     elim told.asked [
       | inl full ↦ cc full
       | inr (blob, asked, _, _) ↦
@@ -116,15 +117,15 @@ module _ (r : Register) (secret : List ℕ) (o then o' : Outside) (draws : Draws
   pub unregistered : (new : Entries) (stop : Stop) (calls : Log)
       → (calls' : Log) × Keeps new calls' × ((stop ≡ no_memory)
       × (((line : List ℕ) × Called (RegisterAnswers r secret then.keys o'.keys) (register_makes r secret) (says_blob r.agent) calls calls' line)
-      ⊎ ((calls' ≡ calls) × ((blob : Option (List ℕ)) × Asked then.keys o'.keys r.ek r.ak secret blob ⊥))))
+      ⊎ ((calls' ≡ calls) × (¬ IsFull calls r.agent) × ((blob : Option (List ℕ)) × Asked then.keys o'.keys r.ek r.ak secret blob ⊥))))
       → (calls' : Log) × Keeps new calls' × IsUnregistered stop o o' r calls calls'
   unregistered new stop calls (calls', kept, (e, inl (line, called))) =
       (calls', kept, subst (λ (s : Stop). IsUnregistered s o o' r calls calls') (sym e) (inl (line, does_register calls calls' line called)))
-  unregistered new stop calls (calls', kept, (e, inr (same, (blob, asked)))) = (
+  unregistered new stop calls (calls', kept, (e, inr (same, room, (blob, asked)))) = (
     calls',
     kept,
     subst (λ (s : Stop). IsUnregistered s o o' r calls calls') (sym e)
-        (inr (same, record { secret = secret; then = then; draws = draws; asks = asks; answer = blob; asked = asked })),
+        (inr (same, record { room = room; secret = secret; then = then; draws = draws; asks = asks; answer = blob; asked = asked })),
   )
 
 -- the parts of a register may be spelled otherwise
@@ -154,7 +155,7 @@ module _ {V : Type 0} (items : V → List ℕ) (r : Register) (secret : List ℕ
   pub register_short : (stop : Stop) → stop ≡ no_memory
       → (calls' : Log) × Keeps new calls' × ((stop ≡ no_memory)
       × (((line : List ℕ) × Called (RegisterAnswers r secret k k') (register_makes r secret) (says_blob r.agent) calls calls' line)
-      ⊎ ((calls' ≡ calls) × ((blob : Option (List ℕ)) × Asked k k' r.ek r.ak secret blob ⊥))))
+      ⊎ ((calls' ≡ calls) × (¬ IsFull calls r.agent) × ((blob : Option (List ℕ)) × Asked k k' r.ek r.ak secret blob ⊥))))
   register_short stop e = elim (register_told items r secret k k' old new answer told calls keeps) [
     | inl t ↦ (
       register_makes r secret (told_answer items answer) ++ calls,
@@ -167,7 +168,7 @@ module _ {V : Type 0} (items : V → List ℕ) (r : Register) (secret : List ℕ
         ),
       ),
     )
-    | inr (is, kept, asked) ↦ (calls, kept, (e, inr (refl, asked)))
+    | inr (is, kept, room, asked) ↦ (calls, kept, (e, inr (refl, room, asked)))
   ]
 
 -- ---- activate

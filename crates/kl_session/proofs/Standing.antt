@@ -1,5 +1,5 @@
 -- What a session's parts do, the session does that it stands for.
-use Rattle.std.proofs.Common.{ℕ, List, inl, inr, refl, sym, subst}
+use Rattle.std.proofs.Common.{◌≡◌, ℕ, List, inl, inr, refl, sym, subst}
 use Rattle.kl_registrar.specs.Calls.{Log}
 use Rattle.kl_registrar.specs.declared.record.RegRecord.{RegRecord}
 use Rattle.kl_script.specs.declared.command.Register.{Register as RegisterCommand}
@@ -65,9 +65,20 @@ register_stopped Memory o o' r calls calls' (inl did) = inl did
 register_stopped Memory o o' r calls calls' (inr (same, vain)) = inr (same, inr vain)
 
 -- a command that asks nothing of the outside
-pub call_stopped : (why : Stop) (o : Outside) (c : RegistrarCommand) (calls calls' : Log) (Done : List ℕ → Type 0)
+call_stopped : (why : Stop) (o : Outside) (c : RegistrarCommand) (calls calls' : Log) (Done : List ℕ → Type 0)
     → ((line : List ℕ) → Done line → RegistrarDoes o o calls c calls' line) → IsShort why calls calls' Done → RegistrarStopped why o o calls c calls'
 call_stopped why o c calls calls' Done does (e, short) = subst (λ (stop : Stop). RegistrarStopped stop o o calls c calls') (sym e) (elim short [
   | inl did ↦ inl (did.0, does did.0 did.1)
   | inr same ↦ inr (same, inl refl)
 ])
+
+-- the calls go on so, and nothing is asked of the outside
+pub leads_alone : (old new : List (List ℕ × RegRecord)) (o : Outside) (Did : Log → Log → Type 0) → LeadsTo old new Did → LeadsTo old new (λ calls calls'. (o ≡ o) × Did calls calls')
+leads_alone old new o Did leads calls keeps = let (calls', kept, did) = leads calls keeps in (calls', kept, (refl, did))
+
+pub leads_short : (why : Stop) (old new : List (List ℕ × RegRecord)) (o : Outside) (c : RegistrarCommand) (Did : Log → Log → List ℕ → Type 0)
+    → ((calls calls' : Log) (line : List ℕ) → Did calls calls' line → RegistrarDoes o o calls c calls' line)
+    → LeadsTo old new (λ calls calls'. IsShort why calls calls' (Did calls calls')) → LeadsTo old new (λ calls calls'. RegistrarStopped why o o calls c calls')
+leads_short why old new o c Did does leads calls keeps =
+    let (calls', kept, short) = leads calls keeps in
+    (calls', kept, call_stopped why o c calls calls' (Did calls calls') (does calls calls') short)

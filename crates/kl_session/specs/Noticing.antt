@@ -1,7 +1,7 @@
 -- What the commands do that ask which agent is polled next, and that deliver notices.
 use Rattle.std.specs.Prelude.{◌≡◌, ℕ, Bool, true, false, List, Option}
 use Rattle.kl_core.specs.Books.{with_marks}
-use Rattle.kl_core.specs.Delivering.{next_notice, MarkAnswers, marks_of}
+use Rattle.kl_core.specs.Notices.{next_notice, MarkAnswers, marks_of}
 use Rattle.kl_core.specs.Picks.{PickAnswers}
 use Rattle.kl_session.specs.Calls.{VerifierFields, past, book_of, verifier_of}
 use Rattle.kl_session.specs.Texts.{picked_line, notice_line, noticed_line, no_notice_line}

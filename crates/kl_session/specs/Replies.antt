@@ -1,12 +1,13 @@
 -- What a reply does.
 use Rattle.std.specs.Prelude.{◌≡◌, ◌⊎◌, ℕ, ◌+◌, ◌≤◌, Bool, false, List, [], ◌∷◌, length, Some, None}
 use Rattle.kl_entry.specs.Lines.{lines_of}
+use Rattle.kl_entry.specs.declared.fault.LineFault.{LineFault}
 use Rattle.kl_quote.specs.declared.evidence.Evidence.{Evidence}
 use Rattle.kl_states.specs.declared.outcome.DropWhy.TheVariants as dropped
 use Rattle.kl_appraise.specs.Asking.{Asked, AskedOnce}
 use Rattle.kl_appraise.specs.Evidence.{check_under}
 use Rattle.kl_appraise.specs.QuoteRules.{IsAnswered, IsUnasked}
-use Rattle.kl_appraise.specs.ListRules.{Case}
+use Rattle.kl_appraise.specs.ListRules.{Case, IsFirstBadLine}
 use Rattle.kl_appraise.specs.declared.judged.Outcome.{Outcome as Finding}
 use Rattle.kl_appraise.specs.Outcome.{IsOutcome}
 use Rattle.kl_incr.specs.Kept.{TicketFields}
@@ -41,9 +42,14 @@ pub data Appraisal : Type 0 where
 abbrev pub IsToAsk : TicketFields → Evidence → Type 0
 IsToAsk t e = ¬ (IsUnasked (check_under t.terms t.nonce e false))
 
+-- at most as many entries were measured as the list has, which are as many as its lines, and none where a line is no entry
+pub record Costs (list : List ℕ) (before after : ℕ) : Type 0 where
+  pub most : after ≤ before + length (lines_of list)
+  pub unread : (place : ℕ) (fault : LineFault) → IsFirstBadLine list place fault → after ≡ before
+
 -- What the rules find of a reply to the open poll: over the whole list since boot, with the poll's nonce, under the terms of the
 -- one generation that its Begin named. The key object was asked once about the quote where it was to be, and else it was not;
--- by its answer the quote is signed. At most as many entries were measured as the list has lines.
+-- by its answer the quote is signed. At most as many entries were measured as the list has.
 pub record IsFinding (o o' : Outside) (past : Past) (t : TicketFields) (e : Evidence) (signed : Bool) (found : Finding) : Type 0 where
   pub case : Case
   pub poll_case : IsCaseOf past t.poll e signed case
@@ -51,7 +57,7 @@ pub record IsFinding (o o' : Outside) (past : Past) (t : TicketFields) (e : Evid
   pub answered : IsAnswered o.keys.relations t.terms.ak (check_under t.terms t.nonce e signed)
   pub asked : IsToAsk t e → Asked o.keys o'.keys t.terms.ak e.quote (Some signed)
   pub spared : IsUnasked (check_under t.terms t.nonce e false) → o'.keys ≡ o.keys
-  pub cost : o'.steps ≤ o.steps + length (lines_of e.list)
+  pub cost : Costs e.list o.steps o'.steps
 
 -- it went so
 abbrev pub Went : Outside → Outside → Past → TicketFields → Evidence → Appraisal → Type 0
@@ -59,7 +65,7 @@ Went o o' past t e (Finds signed found) = IsFinding o o' past t e signed found
 Went o o' past t e Unanswered = IsToAsk t e × Asked o.keys o'.keys t.terms.ak e.quote None × (o'.steps ≡ o.steps)
 Went o o' past t e Short =
     ((o'.keys ≡ o.keys) ⊎ (IsToAsk t e × AskedOnce o.keys o'.keys t.terms.ak e.quote))
-    × (o'.keys.calls.faults ≡ o.keys.calls.faults) × (t.terms.policy.patterns ≡ [] → o'.steps ≡ o.steps) × (o'.steps ≤ o.steps + length (lines_of e.list))
+    × (o'.keys.calls.faults ≡ o.keys.calls.faults) × (t.terms.policy.patterns ≡ [] → o'.steps ≡ o.steps) × Costs e.list o.steps o'.steps
 
 -- by what the poll is closed
 abbrev pub closed_as : Appraisal → ClosedAs

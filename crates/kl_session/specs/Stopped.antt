@@ -1,14 +1,14 @@
 -- Why a command was not answered.
 use Rattle.std.specs.Prelude.{◌≡◌, ◌⊎◌, ℕ, List, Option, None}
-use Rattle.kl_exclude.specs.Told.{MakerTold, RefusesNone}
+use Rattle.kl_policy.specs.Making.{AsksSome}
 use Rattle.kl_registrar.specs.Asking.{Asked}
 use Rattle.kl_registrar.specs.Calls.{Log}
+use Rattle.kl_registrar.specs.Records.{IsFull}
 use Rattle.kl_script.specs.declared.command.Register.{Register}
 use Rattle.kl_script.specs.declared.command.RegistrarCommand.{RegistrarCommand}
 use Rattle.kl_script.specs.declared.command.RegistrarCommand.TheVariants as registrar
 use Rattle.kl_script.specs.Commands.{VerifierCommandFields, CommandFields, add, replace, begin, nothing, to_verifier, to_registrar}
 use Rattle.kl_states.specs.declared.policy_kind.PolicyKind.{PolicyKind}
-use Rattle.kl_states.specs.declared.policy_kind.PolicyKind.TheVariants.{Flat, Json}
 use Rattle.kl_session.specs.declared.stop.Stop.{Stop}
 use Rattle.kl_session.specs.declared.stop.Stop.TheVariants.{NoNonce, Memory}
 use Rattle.kl_session.specs.Outside.{Outside, LeavesRest}
@@ -19,14 +19,9 @@ use Rattle.kl_session.specs.Registering.{AsksKeys, RegistrarDoes}
 
 -- ---- the verifier
 
--- what was asked of patterns where memory ran out: some of a JSON policy, none of which was refused as too large, and none of a flat one
-abbrev pub AsksSome : PolicyKind → MakerTold → MakerTold → Type 0
-AsksSome Flat old new = new ≡ old
-AsksSome Json old new = RefusesNone old new
-
--- patterns of a policy of this form were made, and nothing else was done
-pub record MadeSome (o o' : Outside) (kind : PolicyKind) : Type 0 where
-  pub asked : AsksSome kind o.maker o'.maker
+-- the first patterns of a policy's text may have been made, and nothing else was done
+pub record MadeSome (o o' : Outside) (kind : PolicyKind) (text : List ℕ) : Type 0 where
+  pub asked : AsksSome kind text o.maker o'.maker
   pub rest : LeavesRest o o'
 
 -- the command begins a poll whose nonce is to be drawn, and this is so
@@ -36,8 +31,8 @@ IsToDraw _ Drawn = ⊥
 
 -- the command has a policy, of which patterns may have been made
 abbrev pub IsToRead : VerifierCommandFields → Outside → Outside → Type 0
-IsToRead (add a) o o' = MadeSome o o' a.kind
-IsToRead (replace r) o o' = MadeSome o o' r.kind
+IsToRead (add a) o o' = MadeSome o o' a.kind a.policy
+IsToRead (replace r) o o' = MadeSome o o' r.kind r.policy
 IsToRead _ o o' = ⊥
 
 -- A command to the verifier was not answered: no nonce could be drawn for it, which changes nothing; or memory ran out, before
@@ -55,8 +50,9 @@ abbrev pub IsToRegister : RegistrarCommand → (Register → Type 0) → Type 0
 IsToRegister (registrar.Register r) So = So r
 IsToRegister _ So = ⊥
 
--- a secret was drawn, and then the keys were asked for the blob without a fault
-pub record AskedInVain (o o' : Outside) (r : Register) : Type 0 where
+-- the registrar was not full, a secret was drawn, and then the keys were asked for the blob without a fault
+pub record AskedInVain (o o' : Outside) (calls : Log) (r : Register) : Type 0 where
+  pub room : ¬ IsFull calls r.agent
   pub secret : List ℕ
   pub then : Outside
   pub draws : Draws 32 o then secret
@@ -69,7 +65,7 @@ pub record AskedInVain (o o' : Outside) (r : Register) : Type 0 where
 abbrev pub RegistrarStopped : Stop → Outside → Outside → Log → RegistrarCommand → Log → Type 0
 RegistrarStopped NoNonce o o' calls c calls' = (calls' ≡ calls) × IsToRegister c (λ r. DrawsNone 32 o o')
 RegistrarStopped Memory o o' calls c calls' =
-    ((line : List ℕ) × RegistrarDoes o o' calls c calls' line) ⊎ ((calls' ≡ calls) × ((o' ≡ o) ⊎ IsToRegister c (AskedInVain o o')))
+    ((line : List ℕ) × RegistrarDoes o o' calls c calls' line) ⊎ ((calls' ≡ calls) × ((o' ≡ o) ⊎ IsToRegister c (AskedInVain o o' calls)))
 
 -- ---- a session
 

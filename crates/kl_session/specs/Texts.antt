@@ -58,11 +58,15 @@ reg_refused_line why = refused_line (fault_text why)
 abbrev pub installed_line : List ℕ → ℕ → List ℕ
 installed_line agent generation = codes "installed " ++ agent ++ codes " generation " ++ decimal generation ++ newline
 
+-- this was done to an agent
+abbrev pub done_line : List ℕ → List ℕ → List ℕ
+done_line what agent = what ++ codes " " ++ agent ++ newline
+
 abbrev pub stopped_line : List ℕ → List ℕ
-stopped_line agent = codes "stopped " ++ agent ++ newline
+stopped_line agent = done_line (codes "stopped") agent
 
 abbrev pub removed_line : List ℕ → List ℕ
-removed_line agent = codes "removed " ++ agent ++ newline
+removed_line agent = done_line (codes "removed") agent
 
 -- the moment was set
 abbrev pub now_line : ℕ → List ℕ
@@ -141,7 +145,7 @@ abbrev pub blob_line : List ℕ → List ℕ → List ℕ
 blob_line agent blob = codes "blob " ++ agent ++ codes " " ++ encode_of standard blob ++ newline
 
 abbrev pub active_line : List ℕ → List ℕ
-active_line agent = codes "active " ++ agent ++ newline
+active_line agent = done_line (codes "active") agent
 
 -- what an agent registered: its two keys in hexadecimal, and its contact as a field
 abbrev pub record_line : List ℕ → Registration → List ℕ
@@ -153,4 +157,4 @@ abbrev pub records_line : List (List ℕ) → List ℕ
 records_line ids = codes "records " ++ decimal (length ids) ++ flat_map (λ id. codes " " ++ id) ids ++ newline
 
 abbrev pub forgotten_line : List ℕ → List ℕ
-forgotten_line agent = codes "forgotten " ++ agent ++ newline
+forgotten_line agent = done_line (codes "forgotten") agent

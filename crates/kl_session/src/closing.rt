@@ -1,6 +1,6 @@
 //! A verifier ends.
 
-ghost use Rattle.std.specs.Prelude.{◌≡◌, List, ℕ};
+ghost use Rattle.std.specs.Prelude.{◌≡◌, List, ℕ, reverse};
 ghost use Rattle.kl_history.specs.Legal.{Legal};
 ghost use Rattle.kl_core.specs.Books.{past, with_more};
 ghost use Rattle.kl_session.specs.Closing.{AreOpen, AreUnsettled, IsEnded, drops, withdraws};
@@ -11,39 +11,47 @@ use kl_core::{Book, Share};
 use kl_incr::Ticket;
 use kl_states::{DropWhy, Outcome};
 
+/// The last one first, so that the first is the next to be taken out.
+fn turned<T>(mut row: Vec<T>) -> Vec<T>
+    ensures { result.items ≡ reverse row.items }
+{
+    row.reverse();
+    row
+}
+
 /// Drops the open polls, whose tickets these are, in their order.
-fn drop_all(book: &mut Book, mut tickets: Vec<Ticket>)
+fn drop_all(book: &mut Book, tickets: Vec<Ticket>)
     requires { AreTickets (past book.old) tickets.items }
     ensures dropped { (polls : List ℕ) × AreOpen (past book.old) polls × (book.new ≡ with_more (drops polls) book.old) }
     ensures legal { Legal book.new.history }
 {
-    tickets.reverse();
-    while let Some(ticket) = tickets.pop() {
+    let mut row = turned(tickets);
+    while let Some(ticket) = row.pop() {
         match book.drop_own(ticket, DropWhy::End) {
             Ok(_) => {},
             Err(_) => unreachable!(),
         }
         let _len = book.len();
     }
-    tickets.destroy_empty();
+    row.destroy_empty();
     let _len = book.len();
 }
 
 /// Withdraws the open releases, whose shares these are, in their order.
-fn withdraw_all(book: &mut Book, mut shares: Vec<Share>)
+fn withdraw_all(book: &mut Book, shares: Vec<Share>)
     requires { AreShares (past book.old) shares.items }
     ensures withdrawn { (releases : List ℕ) × AreUnsettled (past book.old) releases
         × (book.new ≡ with_more (withdraws (past book.old) releases) book.old) }
 {
-    shares.reverse();
-    while let Some(share) = shares.pop() {
+    let mut row = turned(shares);
+    while let Some(share) = row.pop() {
         match book.settle_own(share, Outcome::Withdrawn(DropWhy::End)) {
             Ok(_) => {},
             Err(_) => unreachable!(),
         }
         let _len = book.len();
     }
-    shares.destroy_empty();
+    row.destroy_empty();
 }
 
 impl Verifier {

@@ -3,34 +3,28 @@
 ghost use Rattle.std.specs.Prelude.{◌≡◌, IfOk, IfErr, Some, string_bytes};
 ghost use Rattle.kl_session.specs.Endings.{DoesStop, DoesRemove, says_done};
 ghost use Rattle.kl_session.specs.Inner.Stopping.{IsShort};
-ghost use Rattle.kl_session.specs.Texts.{stopped_line, removed_line};
+ghost use Rattle.kl_session.specs.Texts.{done_line};
 
 use crate::refusals::say_refused;
 use crate::stop::Stop;
-use crate::texts::{removed_line, stopped_line};
+use crate::texts::done_line;
 use crate::verifier::Verifier;
 use kl_core::Refusal;
 use kl_states::AgentId;
 use std::alloc::Global;
 
-/// What is said of a stop.
-fn say_stopped(alloc: Global, agent: AgentId, answer: Result<(), Refusal>) -> Result<String, Stop>
-    ensures line { IfOk result (λ line. says_done (stopped_line agent) answer ≡ Some (string_bytes line)) }
+/// What is said where this was to be done to an agent.
+fn say_done(
+    alloc: Global,
+    what: &str,
+    agent: AgentId,
+    answer: Result<(), Refusal>,
+) -> Result<String, Stop>
+    ensures line { IfOk result (λ line. says_done (done_line what.now agent) answer ≡ Some (string_bytes line)) }
     ensures short { IfErr result (λ stop. stop ≡ Stop.Memory) }
 {
     match answer {
-        Ok(()) => Ok(stopped_line(alloc, agent)?),
-        Err(why) => say_refused(alloc, why),
-    }
-}
-
-/// What is said of a removal.
-fn say_removed(alloc: Global, agent: AgentId, answer: Result<(), Refusal>) -> Result<String, Stop>
-    ensures line { IfOk result (λ line. says_done (removed_line agent) answer ≡ Some (string_bytes line)) }
-    ensures short { IfErr result (λ stop. stop ≡ Stop.Memory) }
-{
-    match answer {
-        Ok(()) => Ok(removed_line(alloc, agent)?),
+        Ok(()) => Ok(done_line(alloc, what, agent)?),
         Err(why) => say_refused(alloc, why),
     }
 }
@@ -43,7 +37,7 @@ impl Verifier {
     {
         let answer = self.book.stop(alloc, &agent);
         let _len = self.book.len();
-        say_stopped(alloc, agent, answer)
+        say_done(alloc, "stopped", agent, answer)
     }
 
     /// Removes an agent.
@@ -53,6 +47,6 @@ impl Verifier {
     {
         let answer = self.book.remove(alloc, &agent);
         let _len = self.book.len();
-        say_removed(alloc, agent, answer)
+        say_done(alloc, "removed", agent, answer)
     }
 }

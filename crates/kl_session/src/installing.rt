@@ -83,7 +83,7 @@ impl Verifier {
         ensures done { IfOk result (λ line. (o o' : Outside) → Tells o o' (P.told patterns.old) (P.told patterns.new)
             → DoesAdd o o' add self.old self.new (string_bytes line)) }
         ensures short { IfErr result (λ stop. (o o' : Outside) → Tells o o' (P.told patterns.old) (P.told patterns.new)
-            → IsUnread stop o o' add.kind self.old self.new (DoesAdd o o' add self.old self.new)) }
+            → IsUnread stop o o' add.kind add.policy self.old self.new (DoesAdd o o' add self.old self.new)) }
     {
         let agent = add.agent;
         match terms_of(alloc, add, &self.book, self.latest, patterns) {
@@ -107,7 +107,7 @@ impl Verifier {
         ensures done { IfOk result (λ line. (o o' : Outside) → Tells o o' (P.told patterns.old) (P.told patterns.new)
             → DoesReplace o o' replace self.old self.new (string_bytes line)) }
         ensures short { IfErr result (λ stop. (o o' : Outside) → Tells o o' (P.told patterns.old) (P.told patterns.new)
-            → IsUnread stop o o' replace.kind self.old self.new (DoesReplace o o' replace self.old self.new)) }
+            → IsUnread stop o o' replace.kind replace.policy self.old self.new (DoesReplace o o' replace self.old self.new)) }
     {
         let Replace {
             agent,

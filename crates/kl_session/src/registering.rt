@@ -3,20 +3,20 @@
 ghost use Rattle.std.specs.Prelude.{◌≡◌, ◌≢◌, ◌⊎◌, ℕ, List, Option, Err, IfOk, IfErr, string_bytes};
 ghost use Rattle.kl_exclude.specs.Told.{MakerTold};
 ghost use Rattle.kl_registrar.specs.Asking.{Asked};
+ghost use Rattle.kl_registrar.specs.Records.{IsFull};
 ghost use Rattle.kl_session.specs.Outside.{outside};
 ghost use Rattle.kl_session.specs.Calls.{Called};
 ghost use Rattle.kl_session.specs.Registering.{DoesActivate, DoesForget, DoesRecord, DoesRecords, DoesRegister};
 ghost use Rattle.kl_session.specs.Registering.{RegisterAnswers, RegistrarDoes, register_makes, says, says_blob};
 ghost use Rattle.kl_session.specs.Stopped.{RegistrarStopped};
-ghost use Rattle.kl_session.specs.Texts.{active_line, forgotten_line, reg_refused_line};
+ghost use Rattle.kl_session.specs.Texts.{done_line, reg_refused_line};
 ghost use Rattle.kl_session.specs.Inner.Registrars.{IsUnregistered, LeadsTo, told_answer};
 ghost use Rattle.kl_session.specs.Inner.Stopping.{IsShort};
 
 use crate::drawing::draw;
-use crate::registrar_texts::{
-    active_line, blob_line, forgotten_line, record_line, records_line, reg_refused_line,
-};
+use crate::registrar_texts::{blob_line, record_line, records_line, reg_refused_line};
 use crate::stop::Stop;
+use crate::texts::done_line;
 use kl_io::Words;
 use kl_keys::Keys;
 use kl_registrar::{RegFault, Registrar};
@@ -64,7 +64,8 @@ fn enter<Y: Keys>(
     ensures short { IfErr result (λ stop. LeadsTo registrar.old registrar.new (λ calls calls'. (stop ≡ Stop.Memory)
         × (((line : List ℕ) × Called (RegisterAnswers register secret (Y.told keys.old) (Y.told keys.new)) (register_makes register secret)
         (says_blob register.agent) calls calls' line)
-        ⊎ ((calls' ≡ calls) × ((answer : Option (List ℕ)) × Asked (Y.told keys.old) (Y.told keys.new) register.ek register.ak secret answer ⊥))))) }
+        ⊎ ((calls' ≡ calls) × (¬ IsFull calls register.agent)
+        × ((answer : Option (List ℕ)) × Asked (Y.told keys.old) (Y.told keys.new) register.ek register.ak secret answer ⊥))))) }
 {
     let Register {
         agent,
@@ -105,13 +106,18 @@ fn register_agent<Y: Keys, N: Words>(
     enter(alloc, registrar, register, secret, keys)
 }
 
-/// What is said of an activate.
-fn say_active(alloc: Global, agent: AgentId, answer: Result<(), RegFault>) -> Result<String, Stop>
-    ensures line { IfOk result (λ line. string_bytes line ≡ says (active_line agent) answer) }
+/// What is said where an agent's record was to become this.
+fn say_done(
+    alloc: Global,
+    what: &str,
+    agent: AgentId,
+    answer: Result<(), RegFault>,
+) -> Result<String, Stop>
+    ensures line { IfOk result (λ line. string_bytes line ≡ says (done_line what.now agent) answer) }
     ensures short { IfErr result (λ stop. stop ≡ Stop.Memory) }
 {
     match answer {
-        Ok(()) => Ok(active_line(alloc, agent)?),
+        Ok(()) => Ok(done_line(alloc, what, agent)?),
         Err(why) => say_refused(alloc, why),
     }
 }
@@ -128,7 +134,7 @@ fn activate_agent(
 {
     let Activate { agent, tag } = activate;
     let answer = registrar.activate(&agent, tag.as_str());
-    say_active(alloc, agent, answer)
+    say_done(alloc, "active", agent, answer)
 }
 
 /// Tells an agent's record.
@@ -153,21 +159,6 @@ fn list_agents(alloc: Global, registrar: &Registrar) -> Result<String, Stop>
     }
 }
 
-/// What is said where an agent was to be forgotten.
-fn say_forgotten(
-    alloc: Global,
-    agent: AgentId,
-    answer: Result<(), RegFault>,
-) -> Result<String, Stop>
-    ensures line { IfOk result (λ line. string_bytes line ≡ says (forgotten_line agent) answer) }
-    ensures short { IfErr result (λ stop. stop ≡ Stop.Memory) }
-{
-    match answer {
-        Ok(()) => Ok(forgotten_line(alloc, agent)?),
-        Err(why) => say_refused(alloc, why),
-    }
-}
-
 /// Takes an agent's record out.
 fn forget_agent(alloc: Global, registrar: &mut Registrar, agent: AgentId) -> Result<String, Stop>
     ensures done { IfOk result (λ line. LeadsTo registrar.old registrar.new (λ calls calls'. DoesForget agent calls calls' (string_bytes line))) }
@@ -175,7 +166,7 @@ fn forget_agent(alloc: Global, registrar: &mut Registrar, agent: AgentId) -> Res
         IsShort stop calls calls' (DoesForget agent calls calls'))) }
 {
     let answer = registrar.remove(&agent);
-    say_forgotten(alloc, agent, answer)
+    say_done(alloc, "forgotten", agent, answer)
 }
 
 /// Does what a command says, and answers the line to print, with its newline.

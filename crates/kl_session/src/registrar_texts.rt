@@ -2,7 +2,7 @@
 
 ghost use Rattle.std.specs.Prelude.{◌≡◌, IfOk, string_bytes};
 ghost use Rattle.kl_registrar.specs.Records.{told_of};
-ghost use Rattle.kl_session.specs.Texts.{active_line, blob_line, forgotten_line, record_line, records_line, reg_refused_line};
+ghost use Rattle.kl_session.specs.Texts.{blob_line, record_line, records_line, reg_refused_line};
 
 use base64::engine::general_purpose::STANDARD;
 use kl_registrar::{RegFault, RegRecord};
@@ -28,14 +28,6 @@ pub fn blob_line(alloc: Global, agent: AgentId, blob: &[u8]) -> Result<String, A
     Ok(line)
 }
 
-/// An agent's record is active.
-pub fn active_line(alloc: Global, agent: AgentId) -> Result<String, AllocError>
-    ensures { IfOk result (λ line. string_bytes line ≡ active_line agent) }
-{
-    let agent = agent.as_str();
-    format!(in alloc; "active {agent}\n")
-}
-
 /// What an agent registered.
 pub fn record_line(alloc: Global, agent: AgentId, kept: &RegRecord) -> Result<String, AllocError>
     ensures { IfOk result (λ line. string_bytes line ≡ record_line agent (told_of kept.now)) }
@@ -59,12 +51,4 @@ pub fn records_line(alloc: Global, ids: &[AgentId]) -> Result<String, AllocError
     }
     line.push('\n')?;
     Ok(line)
-}
-
-/// An agent's record was taken out.
-pub fn forgotten_line(alloc: Global, agent: AgentId) -> Result<String, AllocError>
-    ensures { IfOk result (λ line. string_bytes line ≡ forgotten_line agent) }
-{
-    let agent = agent.as_str();
-    format!(in alloc; "forgotten {agent}\n")
 }

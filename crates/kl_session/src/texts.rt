@@ -3,6 +3,7 @@
 ghost use Rattle.std.specs.Prelude.{◌≡◌, ◌++◌, IfOk, Some, None, string_bytes};
 ghost use Rattle.kl_session.specs.Texts.{
   closed_line,
+  done_line,
   installed_line,
   newline,
   no_notice_line,
@@ -15,10 +16,8 @@ ghost use Rattle.kl_session.specs.Texts.{
   polled_line,
   refused_line,
   released_line,
-  removed_line,
   settled_line,
   standing_line,
-  stopped_line,
 };
 ghost use Rattle.kl_core.specs.Texts.{refusal_text};
 
@@ -51,20 +50,12 @@ pub fn installed_line(alloc: Global, agent: AgentId, generation: u64) -> Result<
     format!(in alloc; "installed {agent} generation {generation}\n")
 }
 
-/// An agent was stopped.
-pub fn stopped_line(alloc: Global, agent: AgentId) -> Result<String, AllocError>
-    ensures { IfOk result (λ line. string_bytes line ≡ stopped_line agent) }
+/// This was done to an agent: it was stopped, say.
+pub fn done_line(alloc: Global, what: &str, agent: AgentId) -> Result<String, AllocError>
+    ensures { IfOk result (λ line. string_bytes line ≡ done_line what.now agent) }
 {
     let agent = agent.as_str();
-    format!(in alloc; "stopped {agent}\n")
-}
-
-/// An agent was removed.
-pub fn removed_line(alloc: Global, agent: AgentId) -> Result<String, AllocError>
-    ensures { IfOk result (λ line. string_bytes line ≡ removed_line agent) }
-{
-    let agent = agent.as_str();
-    format!(in alloc; "removed {agent}\n")
+    format!(in alloc; "{what} {agent}\n")
 }
 
 /// The moment was set, in milliseconds.

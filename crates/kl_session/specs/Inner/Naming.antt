@@ -19,9 +19,9 @@ pub record Tells (o o' : Outside) (before after : MakerTold) : Type 0 where
 
 abbrev pub IsPolicyFault : Outside → Outside → PolicyKind → List ℕ → NamingFault → Type 0
 IsPolicyFault o o' kind text (fault.None (Policy why)) = Refuses o o' kind text why
-IsPolicyFault o o' kind text fault.Memory = MadeSome o o' kind
+IsPolicyFault o o' kind text fault.Memory = MadeSome o o' kind text
 IsPolicyFault o o' kind text _ = ⊥
 
 abbrev pub IsTermsFault : Outside → Outside → History → Add → NamingFault → Type 0
 IsTermsFault o o' H a (fault.None why) = NamesNoTerms o o' H a why
-IsTermsFault o o' H a fault.Memory = MadeSome o o' a.kind
+IsTermsFault o o' H a fault.Memory = MadeSome o o' a.kind a.policy

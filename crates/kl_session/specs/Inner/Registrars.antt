@@ -20,7 +20,7 @@ LeadsTo old new So = (calls : Log) → Keeps old calls → (calls' : Log) × Kee
 abbrev pub IsUnregistered : Stop → Outside → Outside → Register → Log → Log → Type 0
 IsUnregistered NoNonce o o' r calls calls' = (calls' ≡ calls) × DrawsNone 32 o o'
 IsUnregistered Memory o o' r calls calls' =
-    ((line : List ℕ) × DoesRegister o o' r calls calls' line) ⊎ ((calls' ≡ calls) × AskedInVain o o' r)
+    ((line : List ℕ) × DoesRegister o o' r calls calls' line) ⊎ ((calls' ≡ calls) × AskedInVain o o' calls r)
 
 -- an answer, whose value is told by its bytes
 abbrev pub told_answer : {V : Type 0} → (V → List ℕ) → Result V RegFault → Result (List ℕ) RegFault

@@ -19,8 +19,8 @@ abbrev pub IsUndone : Stop → Outside → Outside → VerifierFields → Verifi
 IsUndone stop o o' s s' Does = (stop ≡ Memory) × (((line : List ℕ) × Does line) ⊎ ((s' ≡ s) × (o' ≡ o)))
 
 -- the same, where patterns may have been made before
-abbrev pub IsUnread : Stop → Outside → Outside → PolicyKind → VerifierFields → VerifierFields → (List ℕ → Type 0) → Type 0
-IsUnread stop o o' kind s s' Does = (stop ≡ Memory) × (((line : List ℕ) × Does line) ⊎ ((s' ≡ s) × MadeSome o o' kind))
+abbrev pub IsUnread : Stop → Outside → Outside → PolicyKind → List ℕ → VerifierFields → VerifierFields → (List ℕ → Type 0) → Type 0
+IsUnread stop o o' kind text s s' Does = (stop ≡ Memory) × (((line : List ℕ) × Does line) ⊎ ((s' ≡ s) × MadeSome o o' kind text))
 
 -- a begin was not answered: no nonce could be drawn, or memory ran out
 abbrev pub IsUnbegun : Stop → Outside → Outside → VerifierFields → Begin → VerifierFields → Type 0

@@ -9,20 +9,20 @@ use Rattle.kl_session.proofs.closing.drop_all.Goals as goal
 
 pub loop-ticket-init : goal.loop-ticket-init
 loop-ticket-init c =
-    let same = ap reverse c.reverse.ensures.items ∙ reverse-reverse c.args.tickets.items in
+    let same = ap reverse c.turned-row.ensures ∙ reverse-reverse c.args.tickets.items in
     subst (Ending tickets (λ p. Dropped p End) c.args.book.now c.args.book.now c.args.tickets.items) (sym same)
     (ends_none tickets (λ p. Dropped p End) c.args.book.now c.args.tickets.items c.requires)
 
 pub drop_own-requires : goal.drop_own-requires
 drop_own-requires c =
     (head_opened tickets (λ p. Dropped p End) c.args.book.now c.loop-ticket.book c.args.tickets.items (reverse c.pop.new.self.items) c.in-Some.ticket
-    (next_ending tickets (λ p. Dropped p End) c.args.book.now c.loop-ticket.book c.args.tickets.items c.loop-ticket.tickets.items c.pop.new.self.items c.in-Some.ticket
+    (next_ending tickets (λ p. Dropped p End) c.args.book.now c.loop-ticket.book c.args.tickets.items c.loop-ticket.row.items c.pop.new.self.items c.in-Some.ticket
     c.in-Some.ensures.items c.loop-ticket.invariant)).1
 
 pub unreachable-requires : goal.unreachable-requires
 unreachable-requires c =
     let opened = (head_opened tickets (λ p. Dropped p End) c.args.book.now c.loop-ticket.book c.args.tickets.items (reverse c.pop.new.self.items) c.in-Some.ticket
-    (next_ending tickets (λ p. Dropped p End) c.args.book.now c.loop-ticket.book c.args.tickets.items c.loop-ticket.tickets.items c.pop.new.self.items c.in-Some.ticket
+    (next_ending tickets (λ p. Dropped p End) c.args.book.now c.loop-ticket.book c.args.tickets.items c.loop-ticket.row.items c.pop.new.self.items c.in-Some.ticket
     c.in-Some.ensures.items c.loop-ticket.invariant)).0 in
     let closed = c.in-Err.ensures.answer.0 in
     cc
@@ -33,11 +33,11 @@ loop-ticket-preserved c =
     (ends_more tickets (λ p. Dropped p End) c.args.book.now c.loop-ticket.book c.args.tickets.items (reverse c.pop.new.self.items) c.in-Some.ticket
     (record { opens_none = λ q. refl; closes_it = λ q. refl })
     (subst (λ (b : BookFields). Legal b.history) c.in-Ok.ensures.history c.len-len.ensures.legal)
-    (next_ending tickets (λ p. Dropped p End) c.args.book.now c.loop-ticket.book c.args.tickets.items c.loop-ticket.tickets.items c.pop.new.self.items c.in-Some.ticket
+    (next_ending tickets (λ p. Dropped p End) c.args.book.now c.loop-ticket.book c.args.tickets.items c.loop-ticket.row.items c.pop.new.self.items c.in-Some.ticket
     c.in-Some.ensures.items c.loop-ticket.invariant))
 
 pub returns-clause-dropped : goal.returns-clause-dropped
 returns-clause-dropped c =
-    let none : c.loop-ticket.tickets.items ≡ [] = search rules in
+    let none : c.loop-ticket.row.items ≡ [] = search rules in
     ends_all tickets (λ p. Dropped p End) c.args.book.now c.loop-ticket.book c.args.tickets.items c.requires
     (subst (λ row. Ending tickets (λ p. Dropped p End) c.args.book.now c.loop-ticket.book c.args.tickets.items (reverse row)) none c.loop-ticket.invariant)

@@ -9,7 +9,7 @@ use Rattle.kl_session.proofs.closing.withdraw_all.Goals as goal
 pub loop-share-init : goal.loop-share-init
 loop-share-init c =
     let first = c.args.book.now in
-    let same = ap reverse c.reverse.ensures.items ∙ reverse-reverse c.args.shares.items in
+    let same = ap reverse c.turned-row.ensures ∙ reverse-reverse c.args.shares.items in
     subst (Ending shares (withdrawn (past first)) first first c.args.shares.items) (sym same)
     (ends_none shares (withdrawn (past first)) first c.args.shares.items c.requires)
 
@@ -18,7 +18,7 @@ settle_own-requires c =
     let first = c.args.book.now in
     let made = withdrawn (past first) in
     (head_opened shares made first c.loop-share.book c.args.shares.items (reverse c.pop.new.self.items) c.in-Some.share
-    (next_ending shares made first c.loop-share.book c.args.shares.items c.loop-share.shares.items c.pop.new.self.items c.in-Some.share
+    (next_ending shares made first c.loop-share.book c.args.shares.items c.loop-share.row.items c.pop.new.self.items c.in-Some.share
     c.in-Some.ensures.items c.loop-share.invariant)).1
 
 pub unreachable-requires : goal.unreachable-requires
@@ -26,7 +26,7 @@ unreachable-requires c =
     let first = c.args.book.now in
     let made = withdrawn (past first) in
     let opened = (head_opened shares made first c.loop-share.book c.args.shares.items (reverse c.pop.new.self.items) c.in-Some.share
-    (next_ending shares made first c.loop-share.book c.args.shares.items c.loop-share.shares.items c.pop.new.self.items c.in-Some.share
+    (next_ending shares made first c.loop-share.book c.args.shares.items c.loop-share.row.items c.pop.new.self.items c.in-Some.share
     c.in-Some.ensures.items c.loop-share.invariant)).0 in
     let settled = c.in-Err.ensures.answer.0 in
     cc
@@ -37,13 +37,13 @@ loop-share-preserved c =
     let made = withdrawn (past first) in
     withdraw_more first c.loop-share.book _ c.args.shares.items (reverse c.pop.new.self.items) c.in-Some.share _
     c.in-Ok.ensures.answer.1 c.in-Ok.ensures.history c.len-len.ensures.legal
-    (next_ending shares made first c.loop-share.book c.args.shares.items c.loop-share.shares.items c.pop.new.self.items c.in-Some.share
+    (next_ending shares made first c.loop-share.book c.args.shares.items c.loop-share.row.items c.pop.new.self.items c.in-Some.share
     c.in-Some.ensures.items c.loop-share.invariant)
 
 pub returns : goal.returns
 returns c =
     let first = c.args.book.now in
-    let none : c.loop-share.shares.items ≡ [] = search rules in
+    let none : c.loop-share.row.items ≡ [] = search rules in
     record {
       withdrawn = ends_all shares (withdrawn (past first)) first c.loop-share.book c.args.shares.items c.requires
           (subst (λ row. Ending shares (withdrawn (past first)) first c.loop-share.book c.args.shares.items (reverse row)) none c.loop-share.invariant);

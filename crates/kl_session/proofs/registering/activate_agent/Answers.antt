@@ -18,10 +18,10 @@ returns-clause-done c =
       wrong_tag = call.ensures.wrong_tag;
       only = call.ensures.only;
     } in
-    IfOk-weaker c.say_active.result _ _
+    IfOk-weaker c.say_done.result _ _
     (λ line said calls keeps. call_done {Answers = ActivateAnswers a} (Activate a.agent a.tag) (active_line a.agent) call.new.self call.result calls
     (activate_told a c.args.registrar.now call.new.self call.result told calls keeps) (string_bytes line) said)
-    c.say_active.ensures.line
+    c.say_done.ensures.line
 
 pub returns-clause-short : goal.returns-clause-short
 returns-clause-short c =
@@ -35,7 +35,7 @@ returns-clause-short c =
       wrong_tag = call.ensures.wrong_tag;
       only = call.ensures.only;
     } in
-    IfErr-weaker c.say_active.result _ _
+    IfErr-weaker c.say_done.result _ _
     (λ stop e calls keeps. call_short {Answers = ActivateAnswers a} (Activate a.agent a.tag) (active_line a.agent) call.new.self call.result calls
     (activate_told a c.args.registrar.now call.new.self call.result told calls keeps) stop e)
-    c.say_active.ensures.short
+    c.say_done.ensures.short

@@ -1,9 +1,8 @@
 use Rattle.std.proofs.Common.{refl}
 use Rattle.std.proofs.lemmas.Result.{IfOk-weaker, IfErr-weaker}
 use Rattle.kl_script.specs.declared.command.RegistrarCommand.TheVariants.{Activate, Forget}
-use Rattle.kl_session.specs.Outside.{outside}
-use Rattle.kl_session.specs.Registering.{RegistrarDoes, DoesActivate, DoesForget}
-use Rattle.kl_session.proofs.Standing.{register_stopped, call_stopped}
+use Rattle.kl_session.specs.Registering.{RegistrarDoes}
+use Rattle.kl_session.proofs.Standing.{register_stopped, leads_alone, leads_short}
 use Rattle.kl_session.proofs.registering.obey_registrar.Goals as goal
 
 pub returns-in-Register-clause-done : goal.returns-in-Register-clause-done
@@ -24,20 +23,14 @@ unfolding RegistrarDoes
 returns-in-Activate-clause-done g c =
     rw c.in-Activate.is
     (IfOk-weaker c.activate_agent.result _ _
-    (λ line did maker steps calls keeps. let (calls', kept, does) = did calls keeps in (calls', kept, (refl, does)))
+    (λ line did maker steps. leads_alone _ _ _ _ did)
     c.activate_agent.ensures.done)
 
 pub returns-in-Activate-clause-stopped : goal.returns-in-Activate-clause-stopped
 unfolding RegistrarDoes
 returns-in-Activate-clause-stopped g c =
-    let k = g.Y.Keys.told c.args.keys.now in
-    let w = g.N.Words.told c.args.words.now in
-    let said = c.in-Activate.activate in
     rw c.in-Activate.is
-    (IfErr-weaker c.activate_agent.result _ _
-    (λ why short maker steps calls keeps.
-    let (calls', kept, stopped) = short calls keeps in
-    (calls', kept, call_stopped why (outside k w maker steps) (Activate said) calls calls' (DoesActivate said calls calls') (λ line did. (refl, did)) stopped))
+    (IfErr-weaker c.activate_agent.result _ _ (λ why short maker steps. leads_short why _ _ _ (Activate c.in-Activate.activate) _ (λ calls calls' line did. (refl, did)) short)
     c.activate_agent.ensures.short)
 
 pub returns-in-Forget-clause-done : goal.returns-in-Forget-clause-done
@@ -45,20 +38,14 @@ unfolding RegistrarDoes
 returns-in-Forget-clause-done g c =
     rw c.in-Forget.is
     (IfOk-weaker c.forget_agent.result _ _
-    (λ line did maker steps calls keeps. let (calls', kept, does) = did calls keeps in (calls', kept, (refl, does)))
+    (λ line did maker steps. leads_alone _ _ _ _ did)
     c.forget_agent.ensures.done)
 
 pub returns-in-Forget-clause-stopped : goal.returns-in-Forget-clause-stopped
 unfolding RegistrarDoes
 returns-in-Forget-clause-stopped g c =
-    let k = g.Y.Keys.told c.args.keys.now in
-    let w = g.N.Words.told c.args.words.now in
-    let said = c.in-Forget.agent in
     rw c.in-Forget.is
-    (IfErr-weaker c.forget_agent.result _ _
-    (λ why short maker steps calls keeps.
-    let (calls', kept, stopped) = short calls keeps in
-    (calls', kept, call_stopped why (outside k w maker steps) (Forget said) calls calls' (DoesForget said calls calls') (λ line did. (refl, did)) stopped))
+    (IfErr-weaker c.forget_agent.result _ _ (λ why short maker steps. leads_short why _ _ _ (Forget c.in-Forget.agent) _ (λ calls calls' line did. (refl, did)) short)
     c.forget_agent.ensures.short)
 
 pub returns-in-Record-clause-done : goal.returns-in-Record-clause-done
@@ -66,7 +53,7 @@ unfolding RegistrarDoes
 returns-in-Record-clause-done g c =
     rw c.in-Record.is
     (IfOk-weaker c.record_of.result _ _
-    (λ line did maker steps calls keeps. let (calls', kept, does) = did calls keeps in (calls', kept, (refl, does)))
+    (λ line did maker steps. leads_alone _ _ _ _ did)
     c.record_of.ensures.done)
 
 pub returns-in-Records-clause-done : goal.returns-in-Records-clause-done
@@ -74,5 +61,5 @@ unfolding RegistrarDoes
 returns-in-Records-clause-done g c =
     rw c.in-Records.is
     (IfOk-weaker c.list_agents.result _ _
-    (λ line did maker steps calls keeps. let (calls', kept, does) = did calls keeps in (calls', kept, (refl, does)))
+    (λ line did maker steps. leads_alone _ _ _ _ did)
     c.list_agents.ensures.done)

@@ -2,73 +2,35 @@ use Rattle.std.proofs.Common.{◌≡◌, inl, refl}
 use Rattle.std.proofs.lemmas.Result.{IfOk-weaker, IfErr-weaker}
 use Rattle.kl_script.specs.Commands.{add, replace, reactivate, stop, remove, now, lose, release, settle, noticed, reply_fields}
 use Rattle.kl_session.specs.Outside.{outside}
-use Rattle.kl_session.specs.Installs.{DoesAdd, DoesReplace, DoesReactivate}
-use Rattle.kl_session.specs.Endings.{DoesStop, DoesRemove}
-use Rattle.kl_session.specs.Losing.{DoesLose}
-use Rattle.kl_session.specs.Releasing.{DoesRelease, DoesSettle}
-use Rattle.kl_session.specs.Noticing.{DoesMark}
 use Rattle.kl_session.specs.Texts.{now_line}
 use Rattle.kl_session.specs.Verifying.{VerifierDoes}
 use Rattle.kl_session.specs.declared.stop.Stop.TheVariants.{Memory}
 use Rattle.kl_session.specs.Inner.Stopping.{IsShort}
-use Rattle.kl_session.specs.Inner.Naming.{Tells}
 use Rattle.kl_session.proofs.Readings.{told_so}
 use Rattle.kl_session.proofs.Obeying.{alone, unread, unbegun, unanswered}
 use Rattle.kl_session.proofs.verifier.Verifier.obey.Goals as goal
 
 pub returns-in-Add-clause-done : goal.returns-in-Add-clause-done
 unfolding VerifierDoes
-returns-in-Add-clause-done g c =
-    let keys = g.Y.Keys.told c.args.keys.now in
-    let words = g.N.Words.told c.args.nonces.now in
-    let made = g.P.PatternMaker.told in
-    let o = outside keys words (made c.args.patterns.now) c.args.steps.now in
-    let o' = outside keys words (made c.add.new.patterns) c.args.steps.now in
-    let tells : Tells o o' (made c.args.patterns.now) (made c.add.new.patterns) = told_so keys words (made c.args.patterns.now) (made c.add.new.patterns) c.args.steps.now in
-    rw c.in-Add.is (IfOk-weaker c.add.result _ _ (λ line did. did o o' tells) c.add.ensures.done)
+returns-in-Add-clause-done g c = rw c.in-Add.is (IfOk-weaker c.add.result _ _ (λ line did. did _ _ (told_so _ _ _ _ _)) c.add.ensures.done)
 
 pub returns-in-Add-clause-stopped : goal.returns-in-Add-clause-stopped
 unfolding VerifierDoes
 returns-in-Add-clause-stopped g c =
-    let keys = g.Y.Keys.told c.args.keys.now in
-    let words = g.N.Words.told c.args.nonces.now in
-    let made = g.P.PatternMaker.told in
-    let o = outside keys words (made c.args.patterns.now) c.args.steps.now in
-    let o' = outside keys words (made c.add.new.patterns) c.args.steps.now in
-    let tells : Tells o o' (made c.args.patterns.now) (made c.add.new.patterns) = told_so keys words (made c.args.patterns.now) (made c.add.new.patterns) c.args.steps.now in
-    let s = c.args.self.now in
-    let s' = c.add.new.self in
-    let said = c.in-Add.add in
     rw c.in-Add.is
-    (unread c.add.result o o' said.kind s s' (add said) (DoesAdd o o' said s s') (λ line did. did) (λ some. some)
-    (IfErr-weaker c.add.result _ _ (λ stop short. short o o' tells) c.add.ensures.short))
+    (unread c.add.result _ _ _ _ _ _ (add c.in-Add.add) _ (λ line did. did) (λ some. some)
+    (IfErr-weaker c.add.result _ _ (λ stop short. short _ _ (told_so _ _ _ _ _)) c.add.ensures.short))
 
 pub returns-in-Replace-clause-done : goal.returns-in-Replace-clause-done
 unfolding VerifierDoes
-returns-in-Replace-clause-done g c =
-    let keys = g.Y.Keys.told c.args.keys.now in
-    let words = g.N.Words.told c.args.nonces.now in
-    let made = g.P.PatternMaker.told in
-    let o = outside keys words (made c.args.patterns.now) c.args.steps.now in
-    let o' = outside keys words (made c.replace.new.patterns) c.args.steps.now in
-    let tells : Tells o o' (made c.args.patterns.now) (made c.replace.new.patterns) = told_so keys words (made c.args.patterns.now) (made c.replace.new.patterns) c.args.steps.now in
-    rw c.in-Replace.is (IfOk-weaker c.replace.result _ _ (λ line did. did o o' tells) c.replace.ensures.done)
+returns-in-Replace-clause-done g c = rw c.in-Replace.is (IfOk-weaker c.replace.result _ _ (λ line did. did _ _ (told_so _ _ _ _ _)) c.replace.ensures.done)
 
 pub returns-in-Replace-clause-stopped : goal.returns-in-Replace-clause-stopped
 unfolding VerifierDoes
 returns-in-Replace-clause-stopped g c =
-    let keys = g.Y.Keys.told c.args.keys.now in
-    let words = g.N.Words.told c.args.nonces.now in
-    let made = g.P.PatternMaker.told in
-    let o = outside keys words (made c.args.patterns.now) c.args.steps.now in
-    let o' = outside keys words (made c.replace.new.patterns) c.args.steps.now in
-    let tells : Tells o o' (made c.args.patterns.now) (made c.replace.new.patterns) = told_so keys words (made c.args.patterns.now) (made c.replace.new.patterns) c.args.steps.now in
-    let s = c.args.self.now in
-    let s' = c.replace.new.self in
-    let said = c.in-Replace.replace in
     rw c.in-Replace.is
-    (unread c.replace.result o o' said.kind s s' (replace said) (DoesReplace o o' said s s') (λ line did. did) (λ some. some)
-    (IfErr-weaker c.replace.result _ _ (λ stop short. short o o' tells) c.replace.ensures.short))
+    (unread c.replace.result _ _ _ _ _ _ (replace c.in-Replace.replace) _ (λ line did. did) (λ some. some)
+    (IfErr-weaker c.replace.result _ _ (λ stop short. short _ _ (told_so _ _ _ _ _)) c.replace.ensures.short))
 
 pub returns-in-Reactivate-clause-done : goal.returns-in-Reactivate-clause-done
 unfolding VerifierDoes
@@ -76,12 +38,7 @@ returns-in-Reactivate-clause-done g c = rw c.in-Reactivate.is (IfOk-weaker c.rea
 
 pub returns-in-Reactivate-clause-stopped : goal.returns-in-Reactivate-clause-stopped
 unfolding VerifierDoes
-returns-in-Reactivate-clause-stopped g c =
-    let o = outside (g.Y.Keys.told c.args.keys.now) (g.N.Words.told c.args.nonces.now) (g.P.PatternMaker.told c.args.patterns.now) c.args.steps.now in
-    let s = c.args.self.now in
-    let s' = c.reactivate.new.self in
-    let said = c.in-Reactivate.agent in
-    rw c.in-Reactivate.is (alone c.reactivate.result o s s' (reactivate said) (DoesReactivate said s s') (λ line did. (refl, did)) c.reactivate.ensures.short)
+returns-in-Reactivate-clause-stopped g c = rw c.in-Reactivate.is (alone c.reactivate.result _ _ _ (reactivate c.in-Reactivate.agent) _ (λ line did. (refl, did)) c.reactivate.ensures.short)
 
 pub returns-in-Stop-clause-done : goal.returns-in-Stop-clause-done
 unfolding VerifierDoes
@@ -89,12 +46,7 @@ returns-in-Stop-clause-done g c = rw c.in-Stop.is (IfOk-weaker c.stop.result _ _
 
 pub returns-in-Stop-clause-stopped : goal.returns-in-Stop-clause-stopped
 unfolding VerifierDoes
-returns-in-Stop-clause-stopped g c =
-    let o = outside (g.Y.Keys.told c.args.keys.now) (g.N.Words.told c.args.nonces.now) (g.P.PatternMaker.told c.args.patterns.now) c.args.steps.now in
-    let s = c.args.self.now in
-    let s' = c.stop.new.self in
-    let said = c.in-Stop.agent in
-    rw c.in-Stop.is (alone c.stop.result o s s' (stop said) (DoesStop said s s') (λ line did. (refl, did)) c.stop.ensures.short)
+returns-in-Stop-clause-stopped g c = rw c.in-Stop.is (alone c.stop.result _ _ _ (stop c.in-Stop.agent) _ (λ line did. (refl, did)) c.stop.ensures.short)
 
 pub returns-in-Remove-clause-done : goal.returns-in-Remove-clause-done
 unfolding VerifierDoes
@@ -102,12 +54,7 @@ returns-in-Remove-clause-done g c = rw c.in-Remove.is (IfOk-weaker c.remove.resu
 
 pub returns-in-Remove-clause-stopped : goal.returns-in-Remove-clause-stopped
 unfolding VerifierDoes
-returns-in-Remove-clause-stopped g c =
-    let o = outside (g.Y.Keys.told c.args.keys.now) (g.N.Words.told c.args.nonces.now) (g.P.PatternMaker.told c.args.patterns.now) c.args.steps.now in
-    let s = c.args.self.now in
-    let s' = c.remove.new.self in
-    let said = c.in-Remove.agent in
-    rw c.in-Remove.is (alone c.remove.result o s s' (remove said) (DoesRemove said s s') (λ line did. (refl, did)) c.remove.ensures.short)
+returns-in-Remove-clause-stopped g c = rw c.in-Remove.is (alone c.remove.result _ _ _ (remove c.in-Remove.agent) _ (λ line did. (refl, did)) c.remove.ensures.short)
 
 pub returns-in-Now-clause-done : goal.returns-in-Now-clause-done
 unfolding VerifierDoes
@@ -160,12 +107,7 @@ returns-in-Lose-clause-done g c = rw c.in-Lose.is (IfOk-weaker c.lose.result _ _
 
 pub returns-in-Lose-clause-stopped : goal.returns-in-Lose-clause-stopped
 unfolding VerifierDoes
-returns-in-Lose-clause-stopped g c =
-    let o = outside (g.Y.Keys.told c.args.keys.now) (g.N.Words.told c.args.nonces.now) (g.P.PatternMaker.told c.args.patterns.now) c.args.steps.now in
-    let s = c.args.self.now in
-    let s' = c.lose.new.self in
-    let said = c.in-Lose.poll in
-    rw c.in-Lose.is (alone c.lose.result o s s' (lose said) (DoesLose said s s') (λ line did. (refl, did)) c.lose.ensures.short)
+returns-in-Lose-clause-stopped g c = rw c.in-Lose.is (alone c.lose.result _ _ _ (lose c.in-Lose.poll) _ (λ line did. (refl, did)) c.lose.ensures.short)
 
 pub returns-in-Pick-clause-done : goal.returns-in-Pick-clause-done
 unfolding VerifierDoes
@@ -177,12 +119,7 @@ returns-in-Release-clause-done g c = rw c.in-Release.is (IfOk-weaker c.release.r
 
 pub returns-in-Release-clause-stopped : goal.returns-in-Release-clause-stopped
 unfolding VerifierDoes
-returns-in-Release-clause-stopped g c =
-    let o = outside (g.Y.Keys.told c.args.keys.now) (g.N.Words.told c.args.nonces.now) (g.P.PatternMaker.told c.args.patterns.now) c.args.steps.now in
-    let s = c.args.self.now in
-    let s' = c.release.new.self in
-    let said = c.in-Release.agent in
-    rw c.in-Release.is (alone c.release.result o s s' (release said) (DoesRelease said s s') (λ line did. (refl, did)) c.release.ensures.short)
+returns-in-Release-clause-stopped g c = rw c.in-Release.is (alone c.release.result _ _ _ (release c.in-Release.agent) _ (λ line did. (refl, did)) c.release.ensures.short)
 
 pub returns-in-Settle-clause-done : goal.returns-in-Settle-clause-done
 unfolding VerifierDoes
@@ -190,12 +127,7 @@ returns-in-Settle-clause-done g c = rw c.in-Settle.is (IfOk-weaker c.settle.resu
 
 pub returns-in-Settle-clause-stopped : goal.returns-in-Settle-clause-stopped
 unfolding VerifierDoes
-returns-in-Settle-clause-stopped g c =
-    let o = outside (g.Y.Keys.told c.args.keys.now) (g.N.Words.told c.args.nonces.now) (g.P.PatternMaker.told c.args.patterns.now) c.args.steps.now in
-    let s = c.args.self.now in
-    let s' = c.settle.new.self in
-    let said = c.in-Settle.settle in
-    rw c.in-Settle.is (alone c.settle.result o s s' (settle said) (DoesSettle said s s') (λ line did. (refl, did)) c.settle.ensures.short)
+returns-in-Settle-clause-stopped g c = rw c.in-Settle.is (alone c.settle.result _ _ _ (settle c.in-Settle.settle) _ (λ line did. (refl, did)) c.settle.ensures.short)
 
 pub returns-in-Notice-clause-done : goal.returns-in-Notice-clause-done
 unfolding VerifierDoes
@@ -207,9 +139,4 @@ returns-in-Noticed-clause-done g c = rw c.in-Noticed.is (IfOk-weaker c.noticed.r
 
 pub returns-in-Noticed-clause-stopped : goal.returns-in-Noticed-clause-stopped
 unfolding VerifierDoes
-returns-in-Noticed-clause-stopped g c =
-    let o = outside (g.Y.Keys.told c.args.keys.now) (g.N.Words.told c.args.nonces.now) (g.P.PatternMaker.told c.args.patterns.now) c.args.steps.now in
-    let s = c.args.self.now in
-    let s' = c.noticed.new.self in
-    let said = c.in-Noticed.number in
-    rw c.in-Noticed.is (alone c.noticed.result o s s' (noticed said) (DoesMark said s s') (λ line did. (refl, did)) c.noticed.ensures.short)
+returns-in-Noticed-clause-stopped g c = rw c.in-Noticed.is (alone c.noticed.result _ _ _ (noticed c.in-Noticed.number) _ (λ line did. (refl, did)) c.noticed.ensures.short)

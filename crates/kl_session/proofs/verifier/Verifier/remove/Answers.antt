@@ -23,4 +23,4 @@ returns-clause-short c =
     let made : Made (Removes a) (remove_makes a) b.book call.new.self call.result =
     record { answers = call.ensures.answer; grown = call.ensures.history } in
     let short = short_of made (says_done (removed_line a)) b.moment (remove_plain a call.result (past b.book)) in
-    rw (← c.self.view_is) (IfErr-weaker c.say_removed.result _ _ (λ stop e. (e, short)) c.say_removed.ensures.short)
+    rw (← c.self.view_is) (IfErr-weaker c.say_done.result _ _ (λ stop e. (e, short)) c.say_done.ensures.short)

@@ -47,7 +47,7 @@ returns-in-Ok-clause-short g c =
       e,
       elim short [
         | inl did ↦ inl (did.0, inl (x, c.in-Ok.ensures.policy, c.in-Ok.ensures.reads o o' tells, did.1))
-        | inr none ↦ inr (none, some_made o o' c.self.inside.book.history c.args.replace.kind x (c.in-Ok.ensures.reads o o' tells))
+        | inr none ↦ inr (none, some_made o o' c.self.inside.book.history c.args.replace.kind c.args.replace.policy x c.in-Ok.ensures.policy (c.in-Ok.ensures.reads o o' tells))
       ],
     ))
     c.say_installed_or.ensures.short)

@@ -1,10 +1,11 @@
-use Rattle.std.proofs.Common.{refl, inl, inr, string_bytes}
-use Rattle.std.proofs.lemmas.Result.{IfOk-weaker, IfErr-weaker}
+use Rattle.std.proofs.Common.{inr, string_bytes}
+use Rattle.std.proofs.lemmas.Result.{IfOk-weaker}
 use Rattle.kl_core.specs.Books.{past}
-use Rattle.kl_session.specs.Calls.{VerifierFields, verifier_of}
+use Rattle.kl_session.specs.Calls.{verifier_of}
+use Rattle.kl_session.specs.Releasing.{DoesSettle}
 use Rattle.kl_session.specs.Texts.{settled_line}
 use Rattle.kl_session.proofs.Opened.{shares, taken_opened}
-use Rattle.kl_session.proofs.Replied.{settled_kept, settles_release, finds_no_release}
+use Rattle.kl_session.proofs.Replied.{settled_kept, settles_release, said_of, unsaid_of, finds_no_release}
 use Rattle.kl_session.proofs.verifier.Verifier.settle.Goals as goal
 
 pub settle_release-settlement-requires : goal.settle_release-settlement-requires
@@ -23,34 +24,28 @@ pub returns-in-Some-clause-done : goal.returns-in-Some-clause-done
 returns-in-Some-clause-done c =
     let b = c.self.inside in
     let settled = c.settle_release-settlement in
-    let s : VerifierFields = verifier_of b.book b.moment in
-    let s' : VerifierFields = verifier_of settled.new.book b.moment in
-    let t = c.in-Some.share in
-    let opened = taken_opened shares (past b.book) b.shares.items c.take_numbered.new.kept.items t c.in-Some.ensures.some c.self.invariant.shares_are in
     rw (← c.self.view_is)
-    (IfOk-weaker c.say_settled.result _ _
-    (λ line said. settles_release s s' c.args.settle c.outcome.result t settled.result (string_bytes line) c.outcome.ensures opened c.in-Some.ensures.number settled.ensures.settled settled.ensures.history refl said)
+    (said_of string_bytes c.say_settled.result (DoesSettle c.args.settle (verifier_of b.book b.moment) (verifier_of settled.new.book b.moment)) (settled_line settled.result)
+    (settles_release b.book settled.new.book b.moment b.shares.items c.take_numbered.new.kept.items c.in-Some.share c.args.settle c.outcome.result settled.result
+    c.outcome.ensures c.self.invariant.shares_are c.in-Some.ensures.some c.in-Some.ensures.number settled.ensures.settled settled.ensures.history)
     c.say_settled.ensures.line)
 
 pub returns-in-Some-clause-short : goal.returns-in-Some-clause-short
 returns-in-Some-clause-short c =
     let b = c.self.inside in
     let settled = c.settle_release-settlement in
-    let s : VerifierFields = verifier_of b.book b.moment in
-    let s' : VerifierFields = verifier_of settled.new.book b.moment in
-    let t = c.in-Some.share in
-    let line = settled_line settled.result in
-    let opened = taken_opened shares (past b.book) b.shares.items c.take_numbered.new.kept.items t c.in-Some.ensures.some c.self.invariant.shares_are in
+    let s = verifier_of b.book b.moment in
+    let s' = verifier_of settled.new.book b.moment in
     rw (← c.self.view_is)
-    (IfErr-weaker c.say_settled.result _ _
-    (λ stop short. (short, inl (line, settles_release s s' c.args.settle c.outcome.result t settled.result line c.outcome.ensures opened c.in-Some.ensures.number settled.ensures.settled settled.ensures.history refl refl)))
+    (unsaid_of c.say_settled.result s s' (DoesSettle c.args.settle s s') (settled_line settled.result)
+    (settles_release b.book settled.new.book b.moment b.shares.items c.take_numbered.new.kept.items c.in-Some.share c.args.settle c.outcome.result settled.result
+    c.outcome.ensures c.self.invariant.shares_are c.in-Some.ensures.some c.in-Some.ensures.number settled.ensures.settled settled.ensures.history)
     c.say_settled.ensures.short)
 
 pub returns-in-None-clause-done : goal.returns-in-None-clause-done
 returns-in-None-clause-done c =
     let b = c.self.inside in
-    let s : VerifierFields = verifier_of b.book b.moment in
     rw (← c.self.view_is)
     (IfOk-weaker c.say_refused.result _ _
-    (λ line said. inr (finds_no_release c.args.settle.number s b.shares.items (string_bytes line) c.self.invariant.shares_are c.in-None.ensures.none said))
+    (λ line said. inr (finds_no_release c.args.settle.number (verifier_of b.book b.moment) b.shares.items (string_bytes line) c.self.invariant.shares_are c.in-None.ensures.none said))
     c.say_refused.ensures.line)

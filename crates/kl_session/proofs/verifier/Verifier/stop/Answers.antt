@@ -23,4 +23,4 @@ returns-clause-short c =
     let made : Made (Stops a) (stop_makes a) b.book call.new.self call.result =
     record { answers = call.ensures.answer; grown = call.ensures.history } in
     let short = short_of made (says_done (stopped_line a)) b.moment (stop_plain a call.result (past b.book)) in
-    rw (← c.self.view_is) (IfErr-weaker c.say_stopped.result _ _ (λ stop e. (e, short)) c.say_stopped.ensures.short)
+    rw (← c.self.view_is) (IfErr-weaker c.say_done.result _ _ (λ stop e. (e, short)) c.say_done.ensures.short)

@@ -11,7 +11,7 @@ use Rattle.kl_states.specs.declared.op.Op.TheVariants.{ProvideV, ProvideVRetry, 
 use Rattle.kl_states.specs.Ops.{is_owed}
 use Rattle.kl_appraise.specs.Terms.{TermsFields}
 use Rattle.kl_history.specs.Records.{History, Past, handings, is_unsettled, own}
-use Rattle.kl_history.specs.LookBacks.{Installed, came, losses, missed}
+use Rattle.kl_history.specs.LookBacks.{Installed, Passing, came, losses, missed}
 use Rattle.kl_history.specs.States.{is_stop, is_invalid, is_failed, handed_for, PassedUnder, IsDue, IsLiveOp, IsOp}
 use Rattle.kl_history.specs.Legal.{HasRoom}
 use Rattle.kl_history.specs.Releases.{MayRelease}
@@ -78,17 +78,13 @@ module _ (H : History) (past : Past) (a : List ℕ) (e : Entry) (entry : IsEntry
       let last = entry.says.pass_is k passed in
       record {
         next = refl;
-        with = record { generation = e.generation; terms = entry.with };
-        installed = entry.says.terms_are;
-        named = refl;
         due = now_due;
         op = may.0.0;
         state = may.0.1.1;
         owed = may.0.2;
+        named = ap (λ (i : Installed). i.generation) (same_Some _ _ (sym entry.says.terms_are ∙ now_due.installed));
+        stands = sym last.2 ∙ ap (λ (x : Passing). x.poll) (same_Some _ _ (sym last.1 ∙ now_due.passed));
         alone = λ n p was_handed. settled n p was_handed (is_unsettled past n) refl;
-        pass = last.0;
-        passed = last.1;
-        stands = sym last.2;
       } where
         settled : (n p : ℕ) → handed_for n (own past a) ≡ Some p → (b : Bool) → is_unsettled past n ≡ b → is_unsettled past n ≡ false
         settled n p was_handed true is = absurd (may.1 n (p, was_handed, is))

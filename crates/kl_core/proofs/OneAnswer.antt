@@ -45,7 +45,7 @@ use Rattle.kl_core.specs.declared.settlement.Settlement.{Settlement}
 use Rattle.kl_core.specs.Shares.{ShareFields, IsSettlement, OwnSettles, Settles}
 use Rattle.kl_core.specs.States.{IsState, StateAnswers}
 use Rattle.kl_core.specs.Picks.{IsAhead, PickAnswers}
-use Rattle.kl_core.specs.Delivering.{NoticeAnswers, MarkAnswers}
+use Rattle.kl_core.specs.Notices.{NoticeAnswers, MarkAnswers}
 use Rattle.kl_core.proofs.Texts.{eq_same}
 use Rattle.kl_core.proofs.Awaited.{awaited_once}
 use Rattle.kl_core.specs.Answers.{IsAmple, IsAmpleWith, IsAny, IsOneAnswer}
@@ -266,8 +266,8 @@ given_rule past a s x = subst (λ (b : List ℕ). MayRelease past s.number b s.g
 
 no_release_refusal : (past : Past) (a : List ℕ) (s : ShareFields) (why : Refusal) → Gives a s past → RefusesRelease past a why → why ≡ Memory
 no_release_refusal past a s Memory x y = refl
-no_release_refusal past a s NoAgent x y = let rule = given_rule past a s x in absurd (none-some _ (sym y ∙ rule.installed))
-no_release_refusal past a s (WrongState o) x y = let rule = given_rule past a s x in absurd (not_owed past a o y.0 y.1 (rule.op, (ap is_some rule.installed, rule.state), rule.owed))
+no_release_refusal past a s NoAgent x y = let rule = given_rule past a s x in absurd (none-some _ (sym y ∙ rule.due.installed))
+no_release_refusal past a s (WrongState o) x y = let rule = given_rule past a s x in absurd (not_owed past a o y.0 y.1 (rule.op, (ap is_some rule.due.installed, rule.state), rule.owed))
 no_release_refusal past a s (Busy n) x y = let rule = given_rule past a s x in absurd (both_ways (is_unsettled past n) (rule.alone n y.1.0 y.1.1) y.1.2)
 no_release_refusal past a s JournalRecords x y = absurd (y.1 x.room)
 no_release_refusal past a s _ x y = absurd y
@@ -285,8 +285,8 @@ one_share : (past : Past) (a : List ℕ) (s t : ShareFields) → Gives a s past 
 one_share past a s t x y =
     let first = given_rule past a s x in
     let second = given_rule past a t y in
-    let generation : s.generation ≡ t.generation = first.named ∙ ap (λ (i : Installed). i.generation) (one_installed past a first.with second.with first.installed second.installed) ∙ sym second.named in
-    let poll : s.poll ≡ t.poll = first.stands ∙ ap (λ (k : Passing). k.poll) (same_Some first.pass second.pass (sym first.passed ∙ second.passed)) ∙ sym second.stands in
+    let generation : s.generation ≡ t.generation = first.named ∙ ap (λ (i : Installed). i.generation) (one_installed past a first.due.with second.due.with first.due.installed second.due.installed) ∙ sym second.named in
+    let poll : s.poll ≡ t.poll = first.stands ∙ ap (λ (k : Passing). k.poll) (same_Some first.due.pass second.due.pass (sym first.due.passed ∙ second.due.passed)) ∙ sym second.stands in
     let terms = same_Some x.given.terms y.given.terms (sym x.given.under ∙ ap (terms_of past) generation ∙ y.given.under) in
     let evidence = same_Some x.given.evidence y.given.evidence (sym x.given.passed ∙ ap (evidence_of past) poll ∙ y.given.passed) in
     same_shares s t (first.next ∙ sym second.next) (x.agent ∙ sym y.agent) generation poll

@@ -8,7 +8,7 @@ pub mod Closes
 pub mod Shares
 pub mod States
 pub mod Picks
-pub mod Delivering
+pub mod Notices
 pub mod Whole
 pub mod Answers
 pub mod Texts

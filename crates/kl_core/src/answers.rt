@@ -18,7 +18,7 @@ ghost use Rattle.kl_core.specs.Shares.{ShareFields, Releases, OwnSettles, Settle
 ghost use Rattle.kl_core.specs.Books.{BookFields};
 ghost use Rattle.kl_core.specs.States.{StateAnswers};
 ghost use Rattle.kl_core.specs.Picks.{PickAnswers};
-ghost use Rattle.kl_core.specs.Delivering.{NoticeAnswers, MarkAnswers};
+ghost use Rattle.kl_core.specs.Notices.{NoticeAnswers, MarkAnswers};
 ghost use Rattle.kl_core.specs.Answers.{IsAmple, IsAmpleWith, IsAny, IsOneAnswer};
 
 /// Behind given records each call has one answer at most that is not want of memory. Of the reasons to refuse it the

@@ -1,10 +1,10 @@
 //! A history of its own, and what it says at each moment.
 
 mod closes;
-mod deliveries;
 mod endings;
 mod installs;
 mod polls;
+mod releases;
 
 ghost use Rattle.std.specs.Prelude.{◌≡◌, ◌↔◌, ◌≤◌, ◌<◌, ◌+◌, [], ℕ, IsTrue, IfOk, IfErr, IfSome, Some, None, IsSome, is_some, length, slice_get};
 ghost use Rattle.std.specs.Option.{option_copied};
@@ -17,7 +17,7 @@ ghost use Rattle.kl_core.specs.Books.{past, with_marks};
 ghost use Rattle.kl_core.specs.Endings.{IsLive};
 ghost use Rattle.kl_core.specs.States.{StateAnswers};
 ghost use Rattle.kl_core.specs.Picks.{PickAnswers};
-ghost use Rattle.kl_core.specs.Delivering.{NoticeAnswers, MarkAnswers, marks_of};
+ghost use Rattle.kl_core.specs.Notices.{NoticeAnswers, MarkAnswers, marks_of};
 ghost use Rattle.kl_core.specs.Inner.Keeping.{IsEntry, HasEntry, HasOpening, terms_at};
 ghost use Rattle.kl_core.specs.Inner.Steps.{IsBarred, Lacks};
 

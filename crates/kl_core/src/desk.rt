@@ -10,7 +10,7 @@ ghost use Rattle.kl_core.specs.Closes.{OwnFinishes, Finishes, finish_makes, OwnL
 ghost use Rattle.kl_core.specs.Shares.{IsGivenShare, Releases, release_makes, OwnSettles, Settles, settle_makes};
 ghost use Rattle.kl_core.specs.States.{StateAnswers};
 ghost use Rattle.kl_core.specs.Picks.{PickAnswers};
-ghost use Rattle.kl_core.specs.Delivering.{NoticeAnswers, MarkAnswers, marks_of};
+ghost use Rattle.kl_core.specs.Notices.{NoticeAnswers, MarkAnswers, marks_of};
 
 use crate::closed::Closed;
 use crate::refusal::Refusal;

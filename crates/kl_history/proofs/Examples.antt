@@ -24,7 +24,8 @@ use Rattle.kl_history.specs.declared.record.Record.TheVariants.{Dropped, Release
 use Rattle.kl_history.specs.Records.{History, Past, past_of, Start, start_of, Handing, handing_of, handings, is_unsettled, is_open, terms_of, own}
 use Rattle.kl_history.specs.LookBacks.{Installed, installed, losses, missed, Passing, last_pass}
 use Rattle.kl_history.specs.Accepted.{no_boot, SignsBoot, HasAccepted, WasAccepted}
-use Rattle.kl_history.specs.States.{ended, is_current, handed_for, HasReached, IsDue, IsLiveOp}
+use Rattle.kl_history.specs.States.{ended, is_current, handed_for, HasReached, IsDue, IsLiveOp, IsOp}
+use Rattle.kl_history.specs.Releases.{MayRelease}
 use Rattle.kl_history.specs.Legal.{MayClose, Row, weight_of, Legal}
 use Rattle.kl_history.specs.Worked.{a1, Given, Reply, IsFound, IsFoundNext, added, replaced, reactivated, begun, verdict, lost_poll, own_of, IsIn, Accepts, ClosesAs, IsNotBegun, IsNotReleased, polled, passed, FirstPass, late, LatePass, LateFailure, invalid, InvalidQuote, failed_twice, SecondFailure, added_again, gone, AddedAgain, four_losses, five_losses, FiveLosses, released, settled_late, passed_again, ReleasedAndReplaced, missed_delivery, four_missed, five_missed, Undelivered, polled_again, restarted, passed_anew, Rebooted, Continued, stopped, Stopped, PassWithoutShare, passed_afresh, arrived_before, sent_and_added, OfTwo}
 use Rattle.kl_history.proofs.ShortHistories.{AreRows, IsLight, legal_rows, idle, all_settled}
@@ -39,6 +40,20 @@ due_by : (own : Past) (i : Installed) (pass : Passing) → installed own ≡ Som
     → ((boot : Boot) → SignsBoot pass.evidence boot → ¬ (HasReached own boot)) → IsDue own
 due_by own i pass inst has_v passes unreached = record { with = i; installed = inst; has_v = has_v; pass = pass; passed = passes; unreached = unreached }
 
+-- the release rule is met by the agent of these histories
+may_release : (past : Past) (n : ℕ) (i : Installed) (p : Passing) (o : Op) → n ≡ handings past + 1 → IsDue (own past a1) → installed (own past a1) ≡ Some i → last_pass (own past a1) ≡ Some p
+    → IsOp (own past a1) o → is_owed o ≡ true → ((m q : ℕ) → handed_for m (own past a1) ≡ Some q → is_unsettled past m ≡ false) → MayRelease past n a1 i.generation p.poll
+may_release past n i p o next due inst passes state owed alone = record {
+  next = next;
+  due = due;
+  op = o;
+  state = state;
+  owed = owed;
+  named = ap (λ (x : Installed). x.generation) (same_Some i due.with (sym inst ∙ due.installed));
+  stands = ap (λ (x : Passing). x.poll) (same_Some p due.pass (sym passes ∙ due.passed));
+  alone = alone;
+}
+
 -- V is due no more once it reached the boot of the last pass
 reached_not_due : (own : Past) (pass : Passing) (boot : Boot) → last_pass own ≡ Some pass → SignsBoot pass.evidence boot → HasReached own boot → ¬ (IsDue own)
 reached_not_due own pass boot passes signs reached = λ due.
@@ -47,7 +62,7 @@ reached_not_due own pass boot passes signs reached = λ due.
 -- the one state in which nothing is owed
 not_released : (H : History) (o : Op) → IsIn H o → is_owed o ≡ false → IsNotReleased H
 not_released H o is not_owed n g p = λ may.
-    let same : Some may.op ≡ Some o = state_same (own_of H) (Some may.op) (Some o) (ap (λ i. is_some i) may.installed, may.state) is in
+    let same : Some may.op ≡ Some o = state_same (own_of H) (Some may.op) (Some o) (ap (λ i. is_some i) may.due.installed, may.state) is in
     false≢true (sym not_owed ∙ sym (ap is_owed (same_Some may.op o same)) ∙ may.owed)
 
 -- an agent whose being polled has ended is polled no more
@@ -157,20 +172,8 @@ first_pass x r found = record {
     -- the first release
     release_row : (past : Past) → handings past ≡ 0 → installed (own past a1) ≡ Some (record { generation = 1; terms = x.terms }) → last_pass (own past a1) ≡ Some (record { poll = 1; evidence = r.evidence })
         → IsDue (own past a1) → ended (own past a1) ≡ None → missed (own past a1) ≡ 0 → ((n p : ℕ) → ¬ (handed_for n (own past a1) ≡ Some p)) → Row past (Release 1 a1 1 1)
-    release_row past none inst passes due live late alone = record {
-      next = ap (λ n. n + 1) (sym none);
-      with = _;
-      installed = inst;
-      named = refl;
-      due = due;
-      op = op.ProvideV;
-      state = inr (live, (due, late));
-      owed = refl;
-      alone = λ n p handed. absurd (alone _ p handed);
-      pass = _;
-      passed = passes;
-      stands = refl;
-    }
+    release_row past none inst passes due live late alone =
+        may_release past 1 _ _ op.ProvideV (ap (λ n. n + 1) (sym none)) due inst passes (inr (live, (due, late))) refl (λ n p handed. absurd (alone _ p handed))
 
 -- ---- a late pass and a late failure
 
@@ -335,20 +338,9 @@ released_and_replaced x r q found too =
       in_time = λ boot signs also. (refl, inr (refl, (reached_not_due (own_of (arrived_before x r q)) _ boot refl also (inl (1, refl, inl (refl, signs))), refl, refl)));
       afresh = (refl, inr (refl, (due_by (own_of (passed_afresh x r q)) _ _ refl x.has_v refl (λ boot _ none. none), refl)));
       busy_still = λ n g p may. absurd (false≢true (sym (may.alone 1 1 refl)));
-      releases_anew = record {
-        next = refl;
-        with = _;
-        installed = refl;
-        named = refl;
-        due = due_by (own_of (sent_and_added x r q)) _ _ refl x.has_v refl (λ boot _ none. none);
-        op = op.ProvideV;
-        state = inr (refl, (due_by (own_of (sent_and_added x r q)) _ _ refl x.has_v refl (λ boot _ none. none), refl));
-        owed = refl;
-        alone = λ n p handed. absurd (none-some p handed);
-        pass = _;
-        passed = refl;
-        stands = refl;
-      };
+      releases_anew =
+          let due = due_by (own_of (sent_and_added x r q)) _ _ refl x.has_v refl (λ boot _ none. none) in
+          may_release (past_of (sent_and_added x r q)) _ _ _ op.ProvideV refl due refl refl (inr (refl, (due, refl))) refl (λ n p handed. absurd (none-some p handed));
       arrives_late = (refl, inr (refl, (due_by (own_of (sent_and_added x r q ++ Settled 1 Arrived false ∷ [])) _ _ refl x.has_v refl (λ boot _ reached. not_counted x r q boot reached), refl)));
       same_boot = λ boot signs also. (refl, inr (refl, (reached_not_due (own_of H) _ boot refl also (inl (1, refl, inl (refl, signs))), refl, refl)));
       other_boot = λ first second signs also apart. (
@@ -388,20 +380,7 @@ again_row : (x : Given) (r : Reply) (past : Past) (n k : ℕ) → n ≡ handings
     → Row past (Release n a1 1 1)
 again_row x r past n k next inst passes live some unreached alone =
     let due = due_by (own past a1) (record { generation = 1; terms = x.terms }) (record { poll = 1; evidence = r.evidence }) inst x.has_v passes (λ boot _. unreached boot) in
-    record {
-      next = next;
-      with = _;
-      installed = inst;
-      named = refl;
-      due = due;
-      op = op.ProvideVRetry;
-      state = inr (live, (due, λ none. suc-ne-zero k (sym some ∙ none)));
-      owed = refl;
-      alone = λ m p _. alone _;
-      pass = _;
-      passed = passes;
-      stands = refl;
-    }
+    may_release past n _ _ op.ProvideVRetry next due inst passes (inr (live, (due, λ none. suc-ne-zero k (sym some ∙ none)))) refl (λ m p _. alone _)
 
 missed_again : (x : Given) (r : Reply) → IsFound x.terms (x.nonce 1) r (Pass 2) → AreRows (past_of (five_missed x r))
 missed_again x r found =

@@ -156,6 +156,6 @@ passed_at H i a r pass inst legal at installed_now live stands =
 pub released_on_passes : (H : History) → Legal H → AreReleasedOnPasses H
 released_on_passes H legal i n a g p at =
     let row = (legal_at (stands_at H i (Release n a g p) at) legal).1 in
-    let stands = pass_stands (before H i) a row.pass row.with row.passed row.installed in
+    let stands = pass_stands (before H i) a row.due.pass row.due.with row.due.passed row.due.installed in
     subst₂ (IsPassed H i a) (sym row.named) (sym row.stands)
-    (passed_at H i a (Release n a g p) row.pass row.with legal at row.installed (owed_live (own (before H i) a) row.op row.state row.owed) stands)
+    (passed_at H i a (Release n a g p) row.due.pass row.due.with legal at row.due.installed (owed_live (own (before H i) a) row.op row.state row.owed) stands)

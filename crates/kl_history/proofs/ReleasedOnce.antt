@@ -135,19 +135,19 @@ is_signed : (H : History) (i n : ℕ) (a : List ℕ) (g p : ℕ) (boot : Boot) �
 is_signed H i n a g p boot legal at (k, e, s, cut, c, passed, signs) =
     let release = stands_at H i (Release n a g p) at in
     let row = (legal_at release legal).1 in
-    let found = pass_stands (before H i) a row.pass row.with row.passed row.installed in
-    let stands : Stands (Verdict p row.pass.evidence found.signed (Pass found.cut) true) found.behind (before H i) =
-    subst (λ x. Stands (Verdict x row.pass.evidence found.signed (Pass found.cut) true) found.behind (before H i)) (sym row.stands) found.stands in
+    let found = pass_stands (before H i) a row.due.pass row.due.with row.due.passed row.due.installed in
+    let stands : Stands (Verdict p row.due.pass.evidence found.signed (Pass found.cut) true) found.behind (before H i) =
+    subst (λ x. Stands (Verdict x row.due.pass.evidence found.signed (Pass found.cut) true) found.behind (before H i)) (sym row.stands) found.stands in
     let there = stands_at H k (Verdict p e s (Pass cut) c) passed in
-    let same = one_evidence p e row.pass.evidence s found.signed (Pass cut) (Pass found.cut) c true legal there (through release stands) in
+    let same = one_evidence p e row.due.pass.evidence s found.signed (Pass cut) (Pass found.cut) c true legal there (through release stands) in
     record {
-      evidence = row.pass.evidence;
+      evidence = row.due.pass.evidence;
       signed = found.signed;
       cut = found.cut;
       behind = found.behind;
       stands = stands;
-      own_one = subst (λ x. belongs found.behind a (Verdict x row.pass.evidence found.signed (Pass found.cut) true) ≡ true) (sym row.stands) found.own_one;
-      last = row.passed ∙ ap (λ x. Some (record { poll = x; evidence = row.pass.evidence })) (sym row.stands);
+      own_one = subst (λ x. belongs found.behind a (Verdict x row.due.pass.evidence found.signed (Pass found.cut) true) ≡ true) (sym row.stands) found.own_one;
+      last = row.due.passed ∙ ap (λ x. Some (record { poll = x; evidence = row.due.pass.evidence })) (sym row.stands);
       signs = subst (λ x. SignsBoot x boot) same signs;
     }
 

@@ -3,21 +3,16 @@ use Rattle.std.specs.Prelude.{◌≡◌, ℕ, ◌+◌, true, false, List, Some}
 use Rattle.kl_states.specs.declared.op.Op.{Op}
 use Rattle.kl_states.specs.Ops.{is_owed}
 use Rattle.kl_history.specs.Records.{Past, own, handings, is_unsettled}
-use Rattle.kl_history.specs.LookBacks.{Installed, installed, Passing, last_pass}
 use Rattle.kl_history.specs.States.{handed_for, IsDue, IsOp}
 
--- The release has the next number and names the installed generation; V is due, and the agent's state says so; no release
--- that was made since the agent's last Install by Add is open; and the poll is that of the agent's last finding, a pass.
+-- The release has the next number; V is due, and the agent's state says so; it names the installed generation, and the poll of
+-- the last finding, a pass; and no release that was made since the agent's last Install by Add is open.
 pub record MayRelease (past : Past) (number : ℕ) (agent : List ℕ) (generation poll : ℕ) : Type 0 where
   pub next : number ≡ handings past + 1
-  pub with : Installed
-  pub installed : installed (own past agent) ≡ Some with
-  pub named : generation ≡ with.generation
   pub due : IsDue (own past agent)
   pub op : Op
   pub state : IsOp (own past agent) op
   pub owed : is_owed op ≡ true
+  pub named : generation ≡ due.with.generation
+  pub stands : poll ≡ due.pass.poll
   pub alone : (n p : ℕ) → handed_for n (own past agent) ≡ Some p → is_unsettled past n ≡ false
-  pub pass : Passing
-  pub passed : last_pass (own past agent) ≡ Some pass
-  pub stands : poll ≡ pass.poll

@@ -1,4 +1,4 @@
-use Rattle.kl_core.specs.Delivering.{MarkAnswers, marks_of}
+use Rattle.kl_core.specs.Notices.{MarkAnswers, marks_of}
 use Rattle.kl_core.proofs.Telling.{book_marks}
 use Rattle.kl_core.proofs.book_desk.BookDesk.mark_delivered.Goals as goal
 

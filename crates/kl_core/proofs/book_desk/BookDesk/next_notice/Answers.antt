@@ -1,4 +1,4 @@
-use Rattle.kl_core.specs.Delivering.{NoticeAnswers}
+use Rattle.kl_core.specs.Notices.{NoticeAnswers}
 use Rattle.kl_core.proofs.Telling.{book_tells}
 use Rattle.kl_core.proofs.book_desk.BookDesk.next_notice.Goals as goal
 

@@ -28,6 +28,10 @@ const KEPT: usize = 1_048_576;
 /// taken, and the C library gives back so large a piece at once and keeps none of that size for later.
 const ROOM: usize = 34_603_008;
 
+/// A piece of so many bytes is taken and given back before any line is read: the C library then keeps up to twice as much of
+/// what is given back, where at first it returns all but 128 KiB to the system at once, and each long text costs fresh pages.
+const FIRST_PIECE: usize = 2_097_152;
+
 /// What was found of the next line.
 #[derive(Clone, Copy, Debug, PartialEq, Eq)]
 pub enum Found {
@@ -79,6 +83,12 @@ fn with_room(alloc: Global) -> Vec<u8>
     }
 }
 
+/// Takes a first piece of memory, where there is one, and gives it back.
+fn warm_up(alloc: Global) {
+    let piece: Result<Vec<u8>, AllocError> = Vec::with_capacity(alloc, FIRST_PIECE);
+    drop(piece);
+}
+
 /// Reads the lines of a script, in turns of bounded size. The line that was read last stays until the next is read.
 #[derive(Drop)]
 pub struct LineReader {
@@ -112,6 +122,7 @@ impl LineReader {
         ensures ahead { IfOk result (λ r. r.ahead ≡ []) }
         ensures passed { IfOk result (λ r. r.passed ≡ 0) }
     {
+        warm_up(alloc);
         Ok(LineReader {
             line: with_room(alloc),
             chunk: vec![in alloc; 0; TURN]?,

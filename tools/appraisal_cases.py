@@ -36,6 +36,8 @@ GOOD_QUOTE = ev.quote_of("sha256", "n1", GOOD)
 
 # ---- refused adds
 case("mask refused", ev.add_line(POLICY, mask="0x10000"), "refused mask\n")
+case("mask without PCR 16", ev.add_line(POLICY, mask="0x00400"), "refused mask\n")
+case("static outside the mask", ev.add_line(POLICY, statics="0=" + "00" * 32), "refused static\n")
 case("static refused", ev.add_line(POLICY, statics="10=" + "00" * 32), "refused static\n")
 case("static of another bank refused", ev.add_line(POLICY, mask="0x10401", statics="0=" + "00" * 20), "refused static\n")
 case("mask before static", ev.add_line(POLICY, mask="0x10000", statics="10=" + "00" * 32), "refused mask\n")

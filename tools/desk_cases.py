@@ -78,7 +78,8 @@ session("no poll to lose", refused("lose 1", "nopoll 1"), S, B, refused("lose 2"
 # ---- who is polled next: the least moment, then the least id
 session("pick", now(5000), S, due("a1"), B, NONE_DUE, lose(1, "current state 4"), now(8999), NONE_DUE, now(9000), due("a1"))
 session("back-off", now(10), S, B, lose(1, "current state 4"), begin("a1", "n2", 2, 1), lose(2, "current state 4"), now(4010), NONE_DUE,
-        now(8009), NONE_DUE, now(8010), due("a1"))
+        now(8009), NONE_DUE, now(8010), due("a1"), begin("a1", "n3", 3, 1), lose(3, "current state 4"), now(24_009), NONE_DUE,
+        now(24_010), due("a1"), begin("a1", "n4", 4, 1), lose(4, "current state 4"), now(56_009), NONE_DUE, now(56_010), due("a1"))
 session("pick of nobody", NONE_DUE, S, remove("a1"), NONE_DUE, add("a1", 2), stop("a1"), NONE_DUE, reactivate("a1", 3), due("a1"))
 session("pick by moment, then by id", now(100), add("c", 1), add("a", 2), add("b", 3), due("a"), begin("a", "n1", 1, 2), due("b"),
         begin("b", "n2", 2, 3), due("c"), begin("c", "n3", 3, 1), NONE_DUE, passes(2, "n2", "current state 5"), NONE_DUE,
@@ -156,6 +157,9 @@ session("an arrival before a removal does not count after it", S, B, R, release(
         remove("a1"), add("a1", 2), begin("a1", "n2", 2, 2), passes(2, "n2", "current state 5"))
 session("a release from before a replacement is open still", S, B, R, release(1, "a1", 1), replace("a1", 2), begin("a1", "n2", 2, 2),
         passes(2, "n2", "current state 5"), refused("release a1", "busy 1"), settle(1, "missed", "stale state 5"), release(2, "a1", 2))
+session("a late arrival reaches the boot of a later pass", S, B, R, release(1, "a1", 1), reactivate("a1", 2), begin("a1", "n2", 2, 2),
+        passes(2, "n2", "current state 5"), refused("release a1", "busy 1"), settle(1, "arrived", "stale state 3"),
+        refused("release a1", "state 3"))
 session("V reached the boot of a pass, and then a newer pass is of another", S, B, R, release(1, "a1", 1), begin("a1", "n2", 2, 1),
         passes(2, "n2", "current state 5", boot=(2, 0)), settle(1, "arrived", "current state 5"), release(2, "a1", 2),
         begin("a1", "n3", 3, 1), passes(3, "n3", "current state 3"), settle(2, "arrived", "current state 3"))

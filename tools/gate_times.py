@@ -1,91 +1,121 @@
 #!/usr/bin/env python3
-"""Measures what the gate costs: processor seconds of each crate's proofs, tests and wrong bodies, from nothing.
+"""Measures what the gate costs: processor seconds of each crate's proofs, tests and wrong bodies.
 
     tools/gate_times.py [NAME ..]
 
-It works in a fresh clone of the commit that is checked out, in a folder that is removed at the end, so nothing that earlier
-checks kept is used. Crates are measured in the order of crates.txt, those below first; with names, the others are checked and
-not measured. It prints a table for docs/PROVING.md. Run it on a quiet machine: what runs beside it makes processor seconds dearer.
+It runs the gate, `rt ci`, in a fresh clone of the commit that is checked out, with names that of these crates and those below
+them alone, and looks three times a second how long each of its provers has run. It prints what the gate says, then a table for
+docs/PROVING.md. What earlier gates passed on this machine is kept and not measured: run it first on a machine where nothing is,
+which does nothing else, since what runs beside it makes each processor second dearer.
 """
+import collections
+import os
 import pathlib
-import resource
 import subprocess
 import sys
 import tempfile
+import time
 
 ROOT = pathlib.Path(__file__).resolve().parent.parent
+PROVER = "rattle"
+PAUSE = 0.3
+TICKS = os.sysconf("SC_CLK_TCK")
+KINDS = ("proofs", "tests", "wrong bodies")
 
 
-def crates_of(folder):
-    """The names of crates.txt with what each stands on, those below first."""
-    stands_on = {}
-    for line in (folder / "crates.txt").read_text().splitlines():
-        line = line.split("#")[0].strip()
-        if line:
-            name, _, below = line.partition(":")
-            stands_on[name.split()[0]] = below.split()
-    ordered = []
-
-    def add(name):
-        if name in stands_on and name not in ordered:
-            for below in stands_on[name]:
-                add(below)
-            ordered.append(name)
-
-    for name in stands_on:
-        add(name)
-    return ordered
+def words_of(process):
+    """The words of a process's command line, and none where it has ended."""
+    try:
+        return pathlib.Path(f"/proc/{process}/cmdline").read_bytes().decode(errors="replace").split("\0")
+    except OSError:
+        return []
 
 
-def seconds(command, folder):
-    """The processor seconds that a command and its children take; the run ends where it fails."""
-    before = resource.getrusage(resource.RUSAGE_CHILDREN)
-    done = subprocess.run(command, cwd=folder, stdout=subprocess.PIPE, stderr=subprocess.STDOUT, text=True)
-    after = resource.getrusage(resource.RUSAGE_CHILDREN)
-    if done.returncode != 0:
-        sys.exit(f"{' '.join(command)} in {folder.name} failed:\n{done.stdout[-2000:]}")
-    return after.ru_utime + after.ru_stime - before.ru_utime - before.ru_stime
+def fields_of(process):
+    """The fields of a process's state, from the third on, and none where it has ended."""
+    try:
+        return pathlib.Path(f"/proc/{process}/stat").read_text().rpartition(")")[2].split()
+    except OSError:
+        return []
+
+
+def below(top):
+    """The processes that stand below this one."""
+    children = collections.defaultdict(list)
+    for entry in os.listdir("/proc"):
+        if entry.isdigit():
+            fields = fields_of(entry)
+            if fields:
+                children[int(fields[1])].append(int(entry))
+    found, waiting = [], [top]
+    while waiting:
+        process = waiting.pop()
+        found.append(process)
+        waiting += children[process]
+    return found
+
+
+def task_of(process):
+    """The crate that a prover is run for, and what of it, None where the process is none."""
+    words = words_of(process)
+    if not words or not words[0].endswith(f"/{PROVER}") or "--crate-name" not in words:
+        return None
+    crate = words[words.index("--crate-name") + 1]
+    try:
+        folder = os.readlink(f"/proc/{process}/cwd")
+    except OSError:
+        return None
+    kind = 2 if "rt-edit" in folder else 1 if "--test" in words else 0
+    return crate, kind
+
+
+def look(top, seen):
+    """Notes how long each prover has run so far, by its number and the moment at which it started."""
+    for process in below(top):
+        task, fields = task_of(process), fields_of(process)
+        if task and fields:
+            seen[process, fields[19]] = task, (int(fields[11]) + int(fields[12])) / TICKS
+
+
+def gate(names, folder):
+    """Runs the gate. Answers the processor seconds by crate and kind, and whether it passed."""
+    seen = {}
+    child = subprocess.Popen(["rt", "ci", *names], cwd=folder)
+    while child.poll() is None:
+        look(child.pid, seen)
+        time.sleep(PAUSE)
+    seconds = collections.defaultdict(lambda: [0.0] * len(KINDS))
+    for (crate, kind), spent in seen.values():
+        seconds[crate][kind] += spent
+    return seconds, child.returncode == 0
 
 
 def lines_of(folder):
-    """How many lines the crate has in src/, specs/ and proofs/."""
+    """How many lines a crate has in src/, specs/ and proofs/."""
     files = [*folder.glob("src/**/*.rt"), *folder.glob("specs/**/*.antt"), *folder.glob("proofs/**/*.antt")]
     return sum(len(file.read_text().splitlines()) for file in files)
 
 
-def measure(folder, name):
-    """The row of a crate."""
-    crate = folder / "crates" / name
-    proofs = seconds(["rt", "check"], crate)
-    has_tests = any("#[test]" in file.read_text() for file in crate.glob("src/**/*.rt"))
-    tests = seconds(["rt", "test"], crate) if has_tests else 0
-    bodies = len(list(crate.glob("must-fail/*.edit")))
-    edits = seconds(["rt", "must-fail", name, "--anew"], folder) if bodies else 0
-    return lines_of(crate), proofs, tests, edits, bodies
+def show(seconds, crates):
+    """Prints the table, in the order of crates.txt."""
+    order = [line.split(":")[0].split()[0] for line in (ROOT / "crates.txt").read_text().splitlines() if line and line[0] != "#"]
+    print("| crate | lines | proofs s | tests s | wrong bodies s | minutes |")
+    print("|---|---|---|---|---|---|")
+    for crate in [name for name in order if name in seconds]:
+        spent = seconds[crate]
+        row = " | ".join(f"{part:.0f}" for part in spent)
+        print(f"| `{crate}` | {lines_of(crates / crate)} | {row} | {sum(spent) / 60:.1f} |")
+    print(f"in all {sum(sum(spent) for spent in seconds.values()) / 60:.0f} processor minutes")
 
 
 def main():
-    wanted = sys.argv[1:]
-    sums = [0, 0, 0, 0, 0]
-    with tempfile.TemporaryDirectory() as place:
-        folder = pathlib.Path(place) / "clone"
-        subprocess.run(["git", "clone", "-q", str(ROOT), str(folder)], check=True)
-        print("| crate | lines | proofs | tests | wrong bodies | sum |")
-        print("|---|---|---|---|---|---|")
-        for name in crates_of(folder):
-            if wanted and name not in wanted:
-                seconds(["rt", "check"], folder / "crates" / name)
-                continue
-            row = measure(folder, name)
-            sums = [total + part for total, part in zip(sums, row)]
-            print_row(f"`{name}`", row)
-        print_row("all", sums)
-
-
-def print_row(name, row):
-    lines, proofs, tests, edits, bodies = row
-    print(f"| {name} | {lines:,} | {proofs:.0f} | {tests:.0f} | {edits:.0f} ({bodies}) | {proofs + tests + edits:.0f} |", flush=True)
+    with tempfile.TemporaryDirectory() as folder:
+        clone = pathlib.Path(folder) / "clone"
+        subprocess.run(["git", "clone", "-q", str(ROOT), str(clone)], check=True)
+        seconds, passed = gate(sys.argv[1:], clone)
+        show(seconds, clone / "crates")
+    return 0 if passed else 1
 
 
 if __name__ == "__main__":
-    main()
+    sys.exit(main())

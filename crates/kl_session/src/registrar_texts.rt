@@ -4,6 +4,7 @@ ghost use Rattle.std.specs.Prelude.{◌≡◌, IfOk, string_bytes};
 ghost use Rattle.kl_registrar.specs.Records.{told_of};
 ghost use Rattle.kl_session.specs.Texts.{blob_line, record_line, records_line, reg_refused_line};
 
+use crate::texts::line_of;
 use base64::engine::general_purpose::STANDARD;
 use kl_registrar::{RegFault, RegRecord};
 use kl_script::write_field;
@@ -14,7 +15,7 @@ use std::alloc::{AllocError, Global};
 pub fn reg_refused_line(alloc: Global, why: RegFault) -> Result<String, AllocError>
     ensures { IfOk result (λ line. string_bytes line ≡ reg_refused_line why) }
 {
-    format!(in alloc; "refused {why}\n")
+    line_of(alloc, format_args!("refused {why}\n"))
 }
 
 /// An agent was registered, and this is its blob.

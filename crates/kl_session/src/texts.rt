@@ -1,6 +1,6 @@
 //! The lines that a session prints.
 
-ghost use Rattle.std.specs.Prelude.{◌≡◌, ◌++◌, IfOk, Some, None, string_bytes};
+ghost use Rattle.std.specs.Prelude.{◌≡◌, ◌++◌, IfOk, IfSome, Some, None, string_bytes};
 ghost use Rattle.kl_session.specs.Texts.{
   closed_line,
   done_line,
@@ -28,18 +28,30 @@ use kl_states::{AgentId, Op, State};
 use std::alloc::{AllocError, Global};
 use std::fmt;
 
+/// How many bytes a line has room for from the start, which is enough for most: a line is not moved as it grows.
+const ROOM: usize = 128;
+
+/// A text as a line of its own.
+pub fn line_of<D: fmt::Display + Drop>(alloc: Global, text: D) -> Result<String, AllocError>
+    ensures ok { IfOk result (λ line. IfSome (D.output text) (λ bytes. string_bytes line ≡ bytes)) }
+{
+    let mut line = String::with_capacity(alloc, ROOM)?;
+    write!(line, "{text}")?;
+    Ok(line)
+}
+
 /// A command was refused by the desk.
 pub fn refused_line(alloc: Global, why: Refusal) -> Result<String, AllocError>
     ensures { IfOk result (λ line. string_bytes line ≡ refused_line (refusal_text why)) }
 {
-    format!(in alloc; "refused {why}\n")
+    line_of(alloc, format_args!("refused {why}\n"))
 }
 
 /// A command was refused, since it names no terms.
 pub fn no_terms_line(alloc: Global, why: NoTerms) -> Result<String, AllocError>
     ensures { IfOk result (λ line. string_bytes line ≡ refused_line (no_terms_text why)) }
 {
-    format!(in alloc; "refused {why}\n")
+    line_of(alloc, format_args!("refused {why}\n"))
 }
 
 /// The terms of an agent were installed.
@@ -47,7 +59,10 @@ pub fn installed_line(alloc: Global, agent: AgentId, generation: u64) -> Result<
     ensures { IfOk result (λ line. string_bytes line ≡ installed_line agent generation) }
 {
     let agent = agent.as_str();
-    format!(in alloc; "installed {agent} generation {generation}\n")
+    line_of(
+        alloc,
+        format_args!("installed {agent} generation {generation}\n"),
+    )
 }
 
 /// This was done to an agent: it was stopped, say.
@@ -55,14 +70,14 @@ pub fn done_line(alloc: Global, what: &str, agent: AgentId) -> Result<String, Al
     ensures { IfOk result (λ line. string_bytes line ≡ done_line what.now agent) }
 {
     let agent = agent.as_str();
-    format!(in alloc; "{what} {agent}\n")
+    line_of(alloc, format_args!("{what} {agent}\n"))
 }
 
 /// The moment was set, in milliseconds.
 pub fn now_line(alloc: Global, moment: u64) -> Result<String, AllocError>
     ensures { IfOk result (λ line. string_bytes line ≡ now_line moment) }
 {
-    format!(in alloc; "now {moment}\n")
+    line_of(alloc, format_args!("now {moment}\n"))
 }
 
 /// A poll began.
@@ -73,7 +88,10 @@ pub fn polled_line(alloc: Global, ticket: &Ticket) -> Result<String, AllocError>
     let agent = ticket.agent();
     let agent = agent.as_str();
     let nonce = ticket.nonce().as_str();
-    format!(in alloc; "poll {poll} {agent} generation {generation} nonce {nonce} from {from}\n")
+    line_of(
+        alloc,
+        format_args!("poll {poll} {agent} generation {generation} nonce {nonce} from {from}\n"),
+    )
 }
 
 /// How an agent stands.
@@ -87,7 +105,10 @@ pub fn standing_line(alloc: Global, agent: AgentId, state: State) -> Result<Stri
         accepted,
     } = state;
     let name = op.name();
-    format!(in alloc; "state {agent} {op} {name} generation {generation} accepted {accepted}\n")
+    line_of(
+        alloc,
+        format_args!("state {agent} {op} {name} generation {generation} accepted {accepted}\n"),
+    )
 }
 
 /// Whether what was closed was current.
@@ -132,11 +153,23 @@ pub fn closed_line(alloc: Global, closed: Closed) -> Result<String, AllocError>
     let state = Standing(closed.op);
     match closed.as_what {
         ClosedAs::Verdict(verdict) => {
-            format!(in alloc; "verdict {poll} {verdict} {current} state {state}\n")
+            line_of(
+                alloc,
+                format_args!("verdict {poll} {verdict} {current} state {state}\n"),
+            )
         },
-        ClosedAs::Restart => format!(in alloc; "restart {poll} {current} state {state}\n"),
-        ClosedAs::Lost(why) => format!(in alloc; "lost {poll} {why} {current} state {state}\n"),
-        ClosedAs::Dropped(why) => format!(in alloc; "dropped {poll} {why} state {state}\n"),
+        ClosedAs::Restart => line_of(
+            alloc,
+            format_args!("restart {poll} {current} state {state}\n"),
+        ),
+        ClosedAs::Lost(why) => line_of(
+            alloc,
+            format_args!("lost {poll} {why} {current} state {state}\n"),
+        ),
+        ClosedAs::Dropped(why) => line_of(
+            alloc,
+            format_args!("dropped {poll} {why} state {state}\n"),
+        ),
     }
 }
 
@@ -147,7 +180,10 @@ pub fn released_line(alloc: Global, share: &Share) -> Result<String, AllocError>
     let (number, poll) = (share.number(), share.poll());
     let agent = share.agent();
     let agent = agent.as_str();
-    format!(in alloc; "release {number} {agent} poll {poll}\n")
+    line_of(
+        alloc,
+        format_args!("release {number} {agent} poll {poll}\n"),
+    )
 }
 
 /// A release was settled.
@@ -162,7 +198,10 @@ pub fn settled_line(alloc: Global, settlement: Settlement) -> Result<String, All
     } = settlement;
     let current = Current(current);
     let state = Standing(op);
-    format!(in alloc; "settled {number} {outcome} {current} state {state}\n")
+    line_of(
+        alloc,
+        format_args!("settled {number} {outcome} {current} state {state}\n"),
+    )
 }
 
 /// Which agent is polled next.
@@ -170,7 +209,7 @@ pub fn picked_line(alloc: Global, picked: Option<AgentId>) -> Result<String, All
     ensures { IfOk result (λ line. string_bytes line ≡ picked_line picked) }
 {
     match picked {
-        Some(agent) => format!(in alloc; "due {agent}\n"),
+        Some(agent) => line_of(alloc, format_args!("due {agent}\n")),
         None => String::from_str(alloc, "due none\n"),
     }
 }
@@ -179,7 +218,7 @@ pub fn picked_line(alloc: Global, picked: Option<AgentId>) -> Result<String, All
 pub fn told_line(alloc: Global, text: &str) -> Result<String, AllocError>
     ensures { IfOk result (λ line. string_bytes line ≡ text.now ++ newline) }
 {
-    format!(in alloc; "{text}\n")
+    line_of(alloc, format_args!("{text}\n"))
 }
 
 /// No notice is to be delivered.
@@ -193,12 +232,12 @@ pub fn none_noticed_line(alloc: Global) -> Result<String, AllocError>
 pub fn noticed_line(alloc: Global, number: u64) -> Result<String, AllocError>
     ensures { IfOk result (λ line. string_bytes line ≡ noticed_line number) }
 {
-    format!(in alloc; "noticed {number}\n")
+    line_of(alloc, format_args!("noticed {number}\n"))
 }
 
 /// A notice of this number is not the next to be delivered.
 pub fn no_notice_line(alloc: Global, number: u64) -> Result<String, AllocError>
     ensures { IfOk result (λ line. string_bytes line ≡ no_notice_line number) }
 {
-    format!(in alloc; "refused nonotice {number}\n")
+    line_of(alloc, format_args!("refused nonotice {number}\n"))
 }

@@ -2,4 +2,4 @@ use Rattle.std.proofs.Common.{append_assoc}
 use Rattle.kl_session.proofs.texts.installed_line.Goals as goal
 
 pub returns : goal.returns
-returns c = simp append_assoc (rw (← c.as_str-agent.ensures.value) c.format.ensures.ok)
+returns c = simp append_assoc (rw (← c.as_str-agent.ensures.value) c.line_of.ensures.ok)

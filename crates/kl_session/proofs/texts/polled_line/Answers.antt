@@ -12,4 +12,4 @@ returns c =
       ← c.as_str-agent.ensures.value,
       ← c.nonce.ensures,
       ← c.as_str-nonce.ensures.value,
-    ) c.format.ensures.ok)
+    ) c.line_of.ensures.ok)

@@ -76,7 +76,7 @@ impl PartialEq for AgentId {
     ghost laws = { Prim.search (comparing, rules) };
 
     fn eq(&self, other: &AgentId) -> bool {
-        self.name.as_slice() == other.name.as_slice()
+        self.as_str() == other.as_str()
     }
 }
 
@@ -94,7 +94,7 @@ impl Ord for AgentId {
     ghost matches_eq = { Prim.search (comparing, rules) };
 
     fn cmp(&self, other: &AgentId) -> Ordering {
-        self.name.as_slice().cmp(other.name.as_slice())
+        self.as_str().cmp(other.as_str())
     }
 }
 

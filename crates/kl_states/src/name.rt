@@ -38,14 +38,7 @@ impl Name {
         }
     }
 
-    /// Its bytes.
-    pub fn as_slice(&self) -> &[u8]
-        ensures { result.now ≡ self.now }
-    {
-        self.short.as_slice()
-    }
-
-    /// The same as text.
+    /// Its text.
     pub fn as_str(&self) -> &str
         ensures { result.now ≡ self.now }
     {

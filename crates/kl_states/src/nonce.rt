@@ -67,7 +67,7 @@ impl PartialEq for Nonce {
     ghost laws = { Prim.search (comparing, rules) };
 
     fn eq(&self, other: &Nonce) -> bool {
-        self.name.as_slice() == other.name.as_slice()
+        self.as_str() == other.as_str()
     }
 }
 

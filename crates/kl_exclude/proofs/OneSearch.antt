@@ -1,12 +1,11 @@
--- One anchored alternation answers for all its patterns: `^(?:a|b|..)` has a match exactly where one of them has a leftmost match that begins at byte 0.
-use Rattle.std.proofs.Common.{◌≡◌, ◌↔◌, ℕ, zero, suc, ◌+◌, ◌≤◌, Bool, true, false, ◌||◌, List, [], ◌∷◌, length, Option, None, Some, is_some, refl, sym, ◌∙◌, subst, inl, inr, arith, IsUtf8, true≢false}
+-- One anchored alternation answers for all its patterns: the attempt of `^(?:a|b|..)` at byte 0 is a match exactly where one of them has a leftmost match that begins there.
+use Rattle.std.proofs.Common.{◌≡◌, ◌↔◌, ℕ, Bool, true, false, ◌||◌, List, [], ◌∷◌, Option, None, Some, is_some, refl, sym, subst, inl, inr, IsUtf8}
 use Rattle.std.proofs.lemmas.Bool.{false≢true}
-use Rattle.std.proofs.lemmas.Option.{slice_get-get_or}
-use Rattle.regex.specs.Patterns.{Re, Match, Matches, Start, find, alt_all, holds, in_ranges}
+use Rattle.regex.specs.Patterns.{Re, Matches, Start, alt_all, holds, in_ranges}
 use Rattle.regex_hir.specs.Looks.{holds_between}
-use Rattle.regex.proofs.SearchLemmas.{leftmost_attempt}
-use Rattle.regex_hir.proofs.TextLemmas.{byte_before-zero, byte_before-add-one}
-use Rattle.regex.proofs.ForCallers.{find_sound, find_complete}
+use Rattle.regex_hir.specs.Re.{Trace, accept, attempt}
+use Rattle.regex_hir.proofs.AttemptLemmas.{attempt_sound, attempt_complete}
+use Rattle.regex_hir.proofs.TextLemmas.{byte_before-zero}
 use Rattle.kl_exclude.specs.Inner.Joined.{hits, any_hits, joined}
 use Rattle.kl_exclude.proofs.Beginnings.{hit_is_match}
 
@@ -43,32 +42,22 @@ alternation_of_hit : (res : List Re) (path : List ℕ) → IsUtf8 path → any_h
 alternation_of_hit [] path utf8 hit = absurd (false≢true hit)
 alternation_of_hit (re ∷ res) path utf8 hit = first_or_later re res path utf8 (hits re path) refl hit (alternation_of_hit res path utf8)
 
--- ---- the anchor holds at byte 0 alone
-anchor_is_0 : (path : List ℕ) (place : ℕ) → place ≤ length path → holds Start path place ≡ true → place ≡ 0
-unfolding holds holds_between
-anchor_is_0 path zero fits held = refl
-anchor_is_0 path (suc before) fits held =
-    let next : suc before ≡ before + 1 = omega arith in
-    absurd (true≢false (sym held ∙ rw (next, byte_before-add-one path before, slice_get-get_or path before 0 (omega arith))))
-
+-- ---- the whole
 anchor_holds : (path : List ℕ) → holds Start path 0 ≡ true
 unfolding holds holds_between
 anchor_holds path = rw (byte_before-zero path)
 
--- ---- the whole
-hit_of_found : (res : List Re) (path : List ℕ) → IsUtf8 path → (o : Option Match) → find (joined res) path 0 ≡ o → is_some o ≡ true → any_hits res path ≡ true
-hit_of_found res path utf8 None e some = absurd (false≢true some)
-hit_of_found res path utf8 (Some m) e some =
-    let sound = find_sound (joined res) path 0 m e in
-    let (end, (held, same), (inner_end, inner, last)) = sound.1 in
-    let first = anchor_is_0 path m.start (leftmost_attempt (joined res) path false 0 m e).1 held in
-    hit_of_alternation res path utf8 inner_end (subst (λ place. Matches path (alt_all res) place inner_end) (same ∙ first) inner)
+hit_of_attempt : (res : List Re) (path : List ℕ) → IsUtf8 path → (o : Option Trace) → attempt path (joined res) accept 0 ≡ o → is_some o ≡ true → any_hits res path ≡ true
+hit_of_attempt res path utf8 None e some = absurd (false≢true some)
+hit_of_attempt res path utf8 (Some t) e some =
+    let (_, (_, same), (end, inner, _)) = (attempt_sound path (joined res) accept 0 t e).leads in
+    hit_of_alternation res path utf8 end (subst (λ place. Matches path (alt_all res) place end) same inner)
 
-found_of_hit : (res : List Re) (path : List ℕ) → IsUtf8 path → any_hits res path ≡ true → is_some (find (joined res) path 0) ≡ true
-found_of_hit res path utf8 hit =
+attempt_of_hit : (res : List Re) (path : List ℕ) → IsUtf8 path → any_hits res path ≡ true → is_some (attempt path (joined res) accept 0) ≡ true
+attempt_of_hit res path utf8 hit =
     let m = alternation_of_hit res path utf8 hit in
-    find_complete (joined res) path 0 0 m.0 (omega arith) (omega arith) (0, (anchor_holds path, refl), (m.0, m.1, refl))
+    attempt_complete path (joined res) accept 0 m.0 (0, (anchor_holds path, refl), (m.0, m.1, refl)) refl
 
-pub joined_finds : (res : List Re) (path : List ℕ) → IsUtf8 path → is_some (find (joined res) path 0) ≡ any_hits res path
-joined_finds res path utf8 =
-    same_bool _ _ (hit_of_found res path utf8 (find (joined res) path 0) refl, found_of_hit res path utf8)
+pub joined_begins : (res : List Re) (path : List ℕ) → IsUtf8 path → is_some (attempt path (joined res) accept 0) ≡ any_hits res path
+joined_begins res path utf8 =
+    same_bool _ _ (hit_of_attempt res path utf8 (attempt path (joined res) accept 0) refl, attempt_of_hit res path utf8)

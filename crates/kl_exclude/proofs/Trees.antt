@@ -2,12 +2,13 @@
 use Rattle.std.proofs.Common.{◌≡◌, ◌<◌, ◌+◌, ℕ, Bool, true, false, ◌||◌, List, [], ◌∷◌, ◌++◌, map, length, get_or, Option, None, Some, is_some, take, IfSome, refl, sym, ap, ◌∙◌}
 use Rattle.regex_meta.specs.Programs.{pattern_of}
 use Rattle.regex_meta.specs.declared.program.Program.{Program}
-use Rattle.regex.specs.Patterns.{Re, find}
+use Rattle.regex.specs.Patterns.{Re}
 use Rattle.regex_hir.specs.Meaning.{meaning}
+use Rattle.regex_hir.specs.Re.{accept, attempt}
 use Rattle.regex_hir.specs.declared.hir.Hir.{Hir}
 use Rattle.kl_exclude.specs.Excludes.{excludes, any_excludes}
 use Rattle.kl_exclude.specs.Inner.Joined.{hits, any_hits, joined, StandsFor, StandForAll, AnswersFor}
-use Rattle.kl_exclude.proofs.OneSearch.{joined_finds}
+use Rattle.kl_exclude.proofs.OneSearch.{joined_begins}
 use Rattle.kl_exclude.proofs.Walks.{or_with_false, take_next}
 
 or_assoc : (a b c : Bool) → (a || (b || c)) ≡ ((a || b) || c)
@@ -39,7 +40,7 @@ one_tree_more texts trees text tree all one path bytes =
 
 answers : (texts : List (List ℕ)) (trees : List Hir) → StandForAll texts trees → (re : Re) → re ≡ joined (map meaning trees) → AnswersFor texts re
 answers texts trees all re e path utf8 bytes =
-    ap (λ r. is_some (find r path 0)) e ∙ joined_finds (map meaning trees) path utf8 ∙ all path bytes
+    ap (λ r. is_some (attempt path r accept 0)) e ∙ joined_begins (map meaning trees) path utf8 ∙ all path bytes
 
 pub program_answers : (texts : List (List ℕ)) (trees : List Hir) → StandForAll texts trees → (o : Option Program)
     → IfSome o (λ p. pattern_of p ≡ joined (map meaning trees)) → IfSome o (λ p. AnswersFor texts (pattern_of p))

@@ -8,6 +8,7 @@
 mod apart;
 mod compiling;
 mod fault;
+mod front_searcher;
 mod maker;
 mod mem_maker;
 mod path_searcher;
@@ -27,6 +28,3 @@ pub use path_searcher::{PathSearcher, excluded};
 pub use pattern::Pattern;
 pub use patterns::Patterns;
 pub use std_maker::StdMaker;
-
-#[cfg(test)]
-mod tests;

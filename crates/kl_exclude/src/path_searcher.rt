@@ -6,10 +6,11 @@ ghost use Rattle.kl_exclude.specs.Excludes.{any_excludes};
 ghost use Rattle.kl_exclude.specs.Inner.Joined.{AnswersFor};
 
 use crate::apart::{any_hit, searchers};
+use crate::front_searcher::FrontSearcher;
 use crate::pattern::Pattern;
 use crate::pattern_searcher::PatternSearcher;
 use kl_base::Memory;
-use regex_meta::{Program, Searcher};
+use regex_meta::Program;
 use std::alloc::Global;
 use std::marker::Model;
 
@@ -25,7 +26,7 @@ pub struct PathSearcher<'a> {
 #[derive(Drop)]
 enum Search<'a> {
     /// All at once.
-    Together(Searcher<'a>),
+    Together(FrontSearcher<'a>),
     /// One after the other, since there is no program for all of them.
     Apart(Vec<PatternSearcher<'a>>),
 }
@@ -51,7 +52,7 @@ impl<'a> PathSearcher<'a> {
         requires { AnswersFor patterns.now (pattern_of program.now) }
         ensures { IfOk result (λ s. s ≡ patterns.now) }
     {
-        let searcher = Searcher::new(alloc, program)?;
+        let searcher = FrontSearcher::new(alloc, program)?;
         Ok(PathSearcher {
             patterns,
             search: Search::Together(searcher),
@@ -75,7 +76,7 @@ impl<'a> PathSearcher<'a> {
         ensures same { self.new ≡ self.old }
     {
         match &mut self.search {
-            Search::Together(searcher) => searcher.is_match(path.as_bytes(), 0),
+            Search::Together(searcher) => searcher.begins(path),
             Search::Apart(each) => any_hit(each.as_mut_slice(), path),
         }
     }

@@ -67,8 +67,7 @@ impl Patterns {
     }
 
     /// Whether there is one program for all of them.
-    #[cfg(test)]
-    pub(crate) fn are_joined(&self) -> bool {
+    pub fn are_joined(&self) -> bool {
         self.program.is_some()
     }
 

@@ -1,7 +1,8 @@
 -- Patterns as trees, and many of them as one.
 use Rattle.std.specs.Prelude.{◌≡◌, ◌<◌, ℕ, Bool, false, List, [], ◌∷◌, ◌||◌, map, get_or, IsUtf8, is_some}
-use Rattle.regex.specs.Patterns.{Re, Start, find, find_str, look, cat, empty, alt_all}
+use Rattle.regex.specs.Patterns.{Re, Start, find_str, look, cat, empty, alt_all}
 use Rattle.regex_hir.specs.Meaning.{meaning}
+use Rattle.regex_hir.specs.Re.{accept, attempt}
 use Rattle.regex_hir.specs.declared.hir.Hir.{Hir}
 use Rattle.kl_exclude.specs.Excludes.{begins_at_0, excludes, any_excludes}
 
@@ -29,6 +30,6 @@ StandsFor text re = (path : List ℕ) → AreBytes path → hits re path ≡ exc
 abbrev pub StandForAll : List (List ℕ) → List Hir → Type 0
 StandForAll texts trees = (path : List ℕ) → AreBytes path → any_hits (map meaning trees) path ≡ any_excludes texts path
 
--- the pattern matches, anywhere, exactly in what one of the texts excludes
+-- the pattern's attempt at byte 0 is a match exactly where one of the texts excludes the path
 abbrev pub AnswersFor : List (List ℕ) → Re → Type 0
-AnswersFor texts re = (path : List ℕ) → IsUtf8 path → AreBytes path → is_some (find re path 0) ≡ any_excludes texts path
+AnswersFor texts re = (path : List ℕ) → IsUtf8 path → AreBytes path → is_some (attempt path re accept 0) ≡ any_excludes texts path

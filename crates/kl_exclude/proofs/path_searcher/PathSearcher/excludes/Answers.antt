@@ -1,6 +1,6 @@
 use Rattle.std.proofs.Common.{◌∙◌, ap, length, subst, sym}
 use Rattle.std.proofs.lemmas.List.{with_items_is}
-use Rattle.regex_meta.specs.Programs.{pattern_of}
+use Rattle.regex_hir.specs.Meaning.{meaning}
 use Rattle.kl_exclude.specs.Inner.Joined.{AnswersFor}
 use Rattle.kl_exclude.specs.Inner.Searches.{SearchesFor}
 use Rattle.kl_exclude.proofs.path_searcher.PathSearcher.excludes.Goals.{in-Together, in-Apart}
@@ -12,7 +12,7 @@ invariant_of-self c =
     elim c.match-self.branch [
       | in-Together w ↦
           let before = subst (SearchesFor patterns) w.in-Together.is c.self.invariant in
-          let after = subst (λ program. AnswersFor patterns (pattern_of program)) (sym w.is_match.ensures.same) before in
+          let after = subst (λ tree. AnswersFor patterns (meaning tree)) (sym w.begins.ensures.same) before in
           subst (λ inside. SearchesFor inside.patterns.now inside.search) (sym w.self-inside-is) after
       | in-Apart w ↦
           let before = subst (SearchesFor patterns) w.in-Apart.is c.self.invariant in

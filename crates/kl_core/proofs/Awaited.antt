@@ -9,7 +9,7 @@ use lib.Dec.{eqb}
 use Rattle.kl_history.specs.declared.record.Record.{Record}
 use Rattle.kl_history.specs.declared.record.Record.TheVariants.{Install, Begin, Verdict, Restart, Lost, Dropped, Release, Settled, Stop, Remove}
 use Rattle.kl_history.specs.declared.record.InstallWhy.TheVariants.{Add, Replace, Reactivate}
-use Rattle.kl_history.specs.Records.{Past, Handing, handing_of, releases, settles, is_unsettled, belongs, own, handings}
+use Rattle.kl_history.specs.Records.{Past, Handing, handing_of, releases, settles, is_unsettled, belongs, own, releases_made}
 use Rattle.kl_history.specs.States.{handed_for}
 use Rattle.kl_history.specs.Legal.{IsLegalPast}
 use Rattle.kl_history.proofs.Places.{Stands, here, earlier}
@@ -45,7 +45,7 @@ handing_stands (Stop a ∷ past) n h is = handing_more _ past n h (handing_stand
 handing_stands (Remove a ∷ past) n h is = handing_more _ past n h (handing_stands past n h is)
 
 -- the number of a release is one of those up to the last
-pub handing_within : (past : Past) (n : ℕ) (h : Handing) → IsLegalPast past → handing_of past n ≡ Some h → n ≤ handings past
+pub handing_within : (past : Past) (n : ℕ) (h : Handing) → IsLegalPast past → handing_of past n ≡ Some h → n ≤ releases_made past
 handing_within past n h legal is = (drawn_bound release_numbers n (handing_stands past n h is).stands (releases_in_order past legal) (eq-eqb n n refl)).1
 
 -- a later record makes another release

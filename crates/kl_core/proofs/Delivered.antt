@@ -24,6 +24,7 @@ use Rattle.kl_history.proofs.Rows.{poll_numbers, is_open-stays, polls_in_order}
 use Rattle.kl_history.proofs.OwnRecords.{own-step}
 use Rattle.kl_history.proofs.OneStanding.{boot_same}
 use Rattle.kl_core.specs.Shares.{evidence_of}
+use Rattle.kl_core.specs.Inner.Handing.{evidence_by}
 
 -- ---- passes
 
@@ -41,13 +42,9 @@ one_more r past p e is = record { signed = is.signed; verdict = is.verdict; curr
 closed_by_it : (past : Past) (p : ℕ) (e : Evidence) → IsLegalPast past → PollStands past p e → is_open past p ≡ false
 closed_by_it past p e legal is = is_open-stays past p ∙ stays_closed poll_numbers p (polls_in_order past legal) is.stands (eq-eqb p p refl)
 
-abbrev evidence_by : Record → Evidence → Evidence
-evidence_by (Verdict p e s v c) other = e
-evidence_by _ other = other
-
 one_evidence : (past : Past) (p : ℕ) (d e : Evidence) → IsLegalPast past → PollStands past p d → PollStands past p e → d ≡ e
 one_evidence past p d e legal x y =
-    ap (λ r. evidence_by r d) (closed_once poll_numbers p (polls_in_order past legal) x.stands y.stands (eq-eqb p p refl) (eq-eqb p p refl)).0
+    same_Some d e (ap evidence_by (closed_once poll_numbers p (polls_in_order past legal) x.stands y.stands (eq-eqb p p refl) (eq-eqb p p refl)).0)
 
 -- the evidence of a poll is that of a Verdict of it
 evidence_stands : (past : Past) (p : ℕ) (e : Evidence) → evidence_of past p ≡ Some e → PollStands past p e

@@ -13,7 +13,7 @@ use Rattle.kl_notice.specs.declared.notice.FailWhy.{FailWhy}
 use Rattle.kl_notice.specs.declared.notice.FailWhy.TheVariants as failed_by
 use Rattle.kl_incr.specs.Kept.{TicketFields}
 use Rattle.kl_history.specs.declared.record.Record.{Record}
-use Rattle.kl_history.specs.Records.{History, Past, past_of, Start, own}
+use Rattle.kl_history.specs.Records.{History, Past, past_of, Beginning, own}
 use Rattle.kl_history.specs.LookBacks.{Installed, installed}
 use Rattle.kl_history.specs.Accepted.{WasAccepted}
 use Rattle.kl_history.specs.States.{ended, is_live}
@@ -74,11 +74,11 @@ by_blame past r a why b is = ap (λ (o : Option (List ℕ × FailWhy)). elim o [
 current_fails : (past : Past) (t : TicketFields) (by : Close) (terms : TermsFields) (after : Entry) → IsGiven past t → is_live (own past t.agent) ≡ true
     → Says (own (close_record t.poll by true ∷ past) t.agent) terms after → failure past (close_record t.poll by true) ≡ failure_of t.agent (Some after) (close_why by)
 current_fails past t (Found e s (finding.Verdict v) n) terms after given live says =
-    by_blame past (close_record t.poll (Found e s (finding.Verdict v) n) true) t.agent (failed_by.Verdict v) _ (ap (option_map (λ (b : Start). (b.agent, failed_by.Verdict v))) given.began)
+    by_blame past (close_record t.poll (Found e s (finding.Verdict v) n) true) t.agent (failed_by.Verdict v) _ (ap (option_map (λ (b : Beginning). (b.agent, failed_by.Verdict v))) given.began)
     ∙ downfall_is t.agent (failed_by.Verdict v) (own past t.agent) _ terms after live says
 current_fails past t (Found e s finding.Restart n) terms after given live says = refl
 current_fails past t (Lost w) terms after given live says =
-    by_blame past (close_record t.poll (Lost w) true) t.agent failed_by.Losses _ (ap (option_map (λ (b : Start). (b.agent, failed_by.Losses))) given.began)
+    by_blame past (close_record t.poll (Lost w) true) t.agent failed_by.Losses _ (ap (option_map (λ (b : Beginning). (b.agent, failed_by.Losses))) given.began)
     ∙ downfall_is t.agent failed_by.Losses (own past t.agent) _ terms after live says
 current_fails past t (Dropped w) terms after given live says = refl
 

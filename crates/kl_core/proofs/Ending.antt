@@ -25,11 +25,12 @@ use Rattle.kl_appraise.specs.declared.judged.Outcome.{Outcome as Finding}
 use Rattle.kl_appraise.specs.declared.judged.Outcome.TheVariants as finding
 use Rattle.kl_history.specs.declared.record.Record.{Record}
 use Rattle.kl_history.specs.declared.record.Record.TheVariants.{Verdict}
-use Rattle.kl_history.specs.Records.{History, Past, Start, begins, closes, is_open, is_poll_of, belongs, own, is_close, is_release, is_settling}
+use Rattle.kl_history.specs.Records.{History, Past, Beginning, begins, closes, is_open, is_poll_of, belongs, own, is_close, is_release, is_settling}
 use Rattle.kl_history.specs.LookBacks.{installed}
 use Rattle.kl_history.specs.Accepted.{no_boot, SignsBoot, HasAccepted, WasAccepted}
 use Rattle.kl_history.specs.States.{ended, is_current, HasReached}
 use Rattle.kl_history.specs.Legal.{is_add, is_remove, IsCaseOf, MayClose, Row, weight_of}
+use Rattle.kl_history.proofs.OwnRecords.{own-yes}
 use Rattle.kl_core.specs.declared.entry.Entry.{Entry}
 use Rattle.kl_core.specs.declared.entry.Opening.{Opening}
 use Rattle.kl_core.specs.Tickets.{IsGiven}
@@ -42,7 +43,7 @@ use Rattle.kl_core.specs.Inner.Steps.{latest_poll, found, NotedIf}
 use Rattle.kl_core.specs.Inner.Closing.{close_record, close_weight, close_boot, after_close, IsCloseOf}
 use Rattle.kl_core.proofs.Texts.{eq_yes}
 use Rattle.kl_core.proofs.OneMore.{Calm, Quiet, quiet_verdict, quiet_restart, quiet_lost, quiet_dropped}
-use Rattle.kl_core.proofs.Ours.{own_ours, says_dropped, says_passed, says_failed, says_invalid, says_restarted, says_stale_verdict, says_stale_restart, says_lost, says_stale_loss}
+use Rattle.kl_core.proofs.Ours.{says_dropped, says_passed, says_failed, says_invalid, says_restarted, says_stale_verdict, says_stale_restart, says_lost, says_stale_loss}
 use Rattle.kl_core.proofs.Keeping.{agents_at, BeginsNone, entry_step, has_theirs}
 use Rattle.kl_core.proofs.Findings.{restart_signed, same_outcome, same_whole, passes_from_first}
 use Rattle.kl_core.proofs.Standing.{kept_installed}
@@ -180,14 +181,14 @@ has_same : (H : History) (past : Past) (r : Record) (a : List ℕ) (o : Option E
 has_same H past r a o calm none same_installed same_says has = by_belonging (belongs past a r) refl o has where
   by_belonging : (b : Bool) → belongs past a r ≡ b → (o : Option Entry) → HasEntry H past a o → HasEntry (H ++ r ∷ []) (r ∷ past) a o
   by_belonging false is o has = has_theirs H past r a o calm none is has
-  by_belonging true is None has = ap installed (own_ours past r a is) ∙ same_installed (own past a) ∙ has
+  by_belonging true is None has = ap installed (own-yes r past a is) ∙ same_installed (own past a) ∙ has
   by_belonging true is (Some e) has =
       entry_step H past r a e e calm refl refl refl none has
-      (subst (λ (own_past : Past). Says own_past has.with e) (sym (own_ours past r a is)) (same_says (own past a) has.with e has.says))
+      (subst (λ (own_past : Past). Says own_past has.with e) (sym (own-yes r past a is)) (same_says (own past a) has.with e has.says))
 
 -- the record of a poll belongs to the agent of its ticket
 poll_is_of : (past : Past) (t : TicketFields) (a : List ℕ) → IsGiven past t → is_poll_of past a t.poll ≡ bytes_eq a t.agent
-poll_is_of past t a given = ap (λ o. option_map_or (λ (s : Start). bytes_eq a s.agent) o false) given.began
+poll_is_of past t a given = ap (λ o. option_map_or (λ (s : Beginning). bytes_eq a s.agent) o false) given.began
 
 close_belongs : (past : Past) (t : TicketFields) (by : Close) (now : Bool) (a : List ℕ) → IsGiven past t → belongs past a (close_record t.poll by now) ≡ bytes_eq a t.agent
 close_belongs past t (Found e s (finding.Verdict v) n) now a given = poll_is_of past t a given
@@ -279,7 +280,7 @@ pub says_closed : (H : History) (past : Past) (t : TicketFields) (by : Close) (p
     → Says (own (close_record t.poll by true ∷ past) t.agent) known.0.with (after_close t.poll place reached by entry)
 says_closed H past t by place reached entries boot entry given was holds tells known =
     subst (λ (own_past : Past). Says own_past known.0.with (after_close t.poll place reached by entry))
-    (sym (own_ours past (close_record t.poll by true) t.agent (close_belongs past t by true t.agent given ∙ eq_yes t.agent t.agent refl)))
+    (sym (own-yes (close_record t.poll by true) past t.agent (close_belongs past t by true t.agent given ∙ eq_yes t.agent t.agent refl)))
     (current_close (own past t.agent) t by place reached entries boot known.0.with entry given.kept was holds tells known.0.says (known.0.says.end_is ∙ known.1))
 
 -- what is kept of agents after a close
@@ -339,7 +340,7 @@ opening_of H past p None has opened = absurd (both_ways (is_open past p) has ope
 opening_of H past p (Some k) has opened = (k, has, refl)
 
 pub whose : (H : History) (past : Past) (t : TicketFields) (k : Opening) → IsOpening H past t.poll k → IsGiven past t → k.agent ≡ t.agent
-whose H past t k opening given = ap (λ (s : Start). s.agent) (same_Some _ _ (sym opening.given.began ∙ given.began))
+whose H past t k opening given = ap (λ (s : Beginning). s.agent) (same_Some _ _ (sym opening.given.began ∙ given.began))
 
 -- an agent whose entry changes is kept
 pub note_where : (H : History) (past : Past) (agents : BTreeMap (List ℕ) Entry) (t : TicketFields) (entry : Option Entry) (p place : ℕ) (reached : Bool) (by : Close)

@@ -11,7 +11,7 @@ use Rattle.kl_appraise.specs.Terms.{TermsFields}
 use Rattle.kl_incr.specs.Kept.{TicketFields}
 use Rattle.kl_history.specs.declared.record.Record.{Record}
 use Rattle.kl_history.specs.declared.record.Record.TheVariants.{Install, Begin, Verdict, Restart, Lost, Dropped, Release, Settled, Stop, Remove}
-use Rattle.kl_history.specs.Records.{History, Past, past_of, Start, start_of, releases, settles, is_unsettled, terms_of, is_begin, is_install, generations, polls}
+use Rattle.kl_history.specs.Records.{History, Past, past_of, Beginning, start_of, releases, settles, is_unsettled, terms_of, is_begin, is_install, generations, polls}
 use Rattle.kl_history.specs.Legal.{Row, IsLegalPast, Legal}
 use Rattle.kl_core.specs.Tickets.{IsGiven}
 use Rattle.kl_core.specs.Shares.{ShareFields, IsGivenShare, IsOpenShare}
@@ -22,7 +22,7 @@ use Rattle.kl_core.proofs.Awaited.{handing_stays}
 
 -- the numbers of polls and generations were drawn
 record Drawn (past : Past) : Type 0 where
-  pub begun : (q : ℕ) (s : Start) → start_of past q ≡ Some s → q ≤ polls past
+  pub begun : (q : ℕ) (s : Beginning) → start_of past q ≡ Some s → q ≤ polls past
   pub named : (g : ℕ) (t : TermsFields) → terms_of past g ≡ Some t → g ≤ generations past
 
 drawn_quiet : (past : Past) (r : Record) → Quiet past r → Drawn past → Drawn (r ∷ past)

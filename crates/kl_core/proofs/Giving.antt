@@ -10,16 +10,16 @@ use Rattle.kl_states.specs.declared.op.Op.{Op}
 use Rattle.kl_states.specs.declared.op.Op.TheVariants.{ProvideV, ProvideVRetry, Failed, InvalidQuote, TenantFailed}
 use Rattle.kl_states.specs.Ops.{is_owed}
 use Rattle.kl_appraise.specs.Terms.{TermsFields}
-use Rattle.kl_history.specs.Records.{History, Past, handings, is_unsettled, own}
+use Rattle.kl_history.specs.Records.{History, Past, releases_made, is_unsettled, own}
 use Rattle.kl_history.specs.LookBacks.{Installed, Passing, came, losses, missed}
-use Rattle.kl_history.specs.States.{is_stop, is_invalid, is_failed, handed_for, PassedUnder, IsDue, IsLiveOp, IsOp}
+use Rattle.kl_history.specs.States.{is_stop, is_invalid, is_failed, handed_for, PassedUnder, IsDue, IsLiveOp, IsOp, HasOp}
 use Rattle.kl_history.specs.Legal.{HasRoom}
 use Rattle.kl_history.specs.Releases.{MayRelease}
 use Rattle.kl_core.specs.declared.entry.Entry.{Entry}
 use Rattle.kl_core.specs.declared.entry.Handed.{Handed}
 use Rattle.kl_core.specs.declared.entry.Passed.{Passed}
 use Rattle.kl_core.specs.declared.reached.Target.{Target}
-use Rattle.kl_core.specs.Shares.{IsAwaited, IsIn, IsOwed, MayHand, Gives}
+use Rattle.kl_core.specs.Shares.{IsAwaited, IsOwed, MayHand, Gives}
 use Rattle.kl_core.specs.Inner.Keeping.{terms_at, IsEntry}
 use Rattle.kl_core.specs.Inner.Handing.{evidence_at, v_of, contact_of, public_of, IsPlaced, IsHanded, HasHanded, IsReady, Reaches}
 use Rattle.kl_core.specs.Inner.Steps.{op_of}
@@ -32,7 +32,7 @@ handed_at H past n o h has is = subst (λ (o : Option Handed). HasHanded H past 
 
 -- ---- whether V may be released
 -- an agent that is kept is installed, in the state that is kept of it
-pub is_in : (H : History) (past : Past) (a : List ℕ) (e : Entry) → IsEntry H past a e → IsIn past a (op_of e)
+pub is_in : (H : History) (past : Past) (a : List ℕ) (e : Entry) → IsEntry H past a e → HasOp (own past a) (Some (op_of e))
 is_in H past a e entry = (ap is_some entry.says.terms_are, op_stands (own past a) entry.with e entry.says)
 
 pub is_owed_to : (H : History) (past : Past) (a : List ℕ) (e : Entry) → IsEntry H past a e → is_owed (op_of e) ≡ true → IsOwed past a
@@ -73,7 +73,7 @@ module _ (H : History) (past : Past) (a : List ℕ) (e : Entry) (entry : IsEntry
   has_pass none = none-some now_due.pass (sym (entry.says.no_pass none) ∙ now_due.passed)
 
   -- the release rule is met
-  may_release : (k : Passed) → e.pass ≡ Some k → MayRelease past (handings past + 1) a e.generation k.poll
+  may_release : (k : Passed) → e.pass ≡ Some k → MayRelease past (releases_made past + 1) a e.generation k.poll
   may_release k passed =
       let last = entry.says.pass_is k passed in
       record {
@@ -94,28 +94,30 @@ module _ (H : History) (past : Past) (a : List ℕ) (e : Entry) (entry : IsEntry
   ready k passed placed =
       let last = entry.says.pass_is k passed in
       record {
-        with = entry.with;
-        place_is = entry.place_is;
-        named = entry.named;
-        has_v = subst (λ (i : Installed). IsSome i.terms.v) (same_Some _ _ (sym now_due.installed ∙ entry.says.terms_are)) now_due.has_v;
-        passed = placed;
-        under = subst (λ (p : ℕ). PassedUnder p (own past a) k.boot) last.2 (passed_last (own past a) last.0 k.boot last.1 last.3);
+        sources = record {
+          with = entry.with;
+          place_is = entry.place_is;
+          named = entry.named;
+          has_v = subst (λ (i : Installed). IsSome i.terms.v) (same_Some _ _ (sym now_due.installed ∙ entry.says.terms_are)) now_due.has_v;
+          passed = placed;
+          under = subst (λ (p : ℕ). PassedUnder p (own past a) k.boot) last.2 (passed_last (own past a) last.0 k.boot last.1 last.3);
+        };
         rule = may_release k passed;
       }
 
 -- ---- the share
 module _ (H : History) (past : Past) (h : Handed) (ready : IsReady H past h) where
   pub some_v : IsSome (option_and_then v_of (terms_at H h.place))
-  some_v = ap (λ (o : Option TermsFields). is_some (option_and_then v_of o)) ready.place_is ∙ ready.has_v
+  some_v = ap (λ (o : Option TermsFields). is_some (option_and_then v_of o)) ready.sources.place_is ∙ ready.sources.has_v
 
   pub some_evidence : IsSome (evidence_at H h.pass.place)
-  some_evidence = ap is_some ready.passed.1
+  some_evidence = ap is_some ready.sources.passed.1
 
   -- the rule under the number that the release gets
-  pub rule_at : (n : ℕ) → n ≡ handings past + 1 → MayRelease past n h.agent h.generation h.pass.poll
+  pub rule_at : (n : ℕ) → n ≡ releases_made past + 1 → MayRelease past n h.agent h.generation h.pass.poll
   rule_at n next = subst (λ (m : ℕ). MayRelease past m h.agent h.generation h.pass.poll) (sym next) ready.rule
 
-  pub gives : (a : List ℕ) (n : ℕ) (v public contact : List ℕ) → h.agent ≡ a → n ≡ handings past + 1 → HasRoom past 2 → option_and_then v_of (terms_at H h.place) ≡ Some v
+  pub gives : (a : List ℕ) (n : ℕ) (v public contact : List ℕ) → h.agent ≡ a → n ≡ releases_made past + 1 → HasRoom past 2 → option_and_then v_of (terms_at H h.place) ≡ Some v
       → option_map public_of (evidence_at H h.pass.place) ≡ Some public → option_map contact_of (terms_at H h.place) ≡ Some contact
       → Gives a (record { number = n; agent = h.agent; generation = h.generation; poll = h.pass.poll; v = v; public = public; contact = contact }) past
   gives a n v public contact ours next room has_v has_public has_contact = record {
@@ -124,13 +126,13 @@ module _ (H : History) (past : Past) (h : Handed) (ready : IsReady H past h) whe
     room = room;
     given = record {
       released = cond-true (eqb n n) _ _ (eq-eqb n n refl);
-      terms = ready.with;
-      under = ready.named;
-      v = ap (option_and_then v_of) (sym ready.place_is) ∙ has_v;
-      contact = same_Some _ _ (ap (option_map contact_of) (sym ready.place_is) ∙ has_contact);
-      evidence = ready.passed.0;
-      passed = ready.passed.2;
-      public = same_Some _ _ (ap (option_map public_of) (sym ready.passed.1) ∙ has_public);
+      terms = ready.sources.with;
+      under = ready.sources.named;
+      v = ap (option_and_then v_of) (sym ready.sources.place_is) ∙ has_v;
+      contact = same_Some _ _ (ap (option_map contact_of) (sym ready.sources.place_is) ∙ has_contact);
+      evidence = ready.sources.passed.0;
+      passed = ready.sources.passed.2;
+      public = same_Some _ _ (ap (option_map public_of) (sym ready.sources.passed.1) ∙ has_public);
     };
     unsettled = ap (λ b. b || is_unsettled past n) (eq-eqb n n refl);
   }

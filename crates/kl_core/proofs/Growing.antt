@@ -18,10 +18,11 @@ use Rattle.kl_history.specs.declared.record.Record.{Record}
 use Rattle.kl_history.specs.declared.record.Record.TheVariants.{Install, Begin, Stop, Remove}
 use Rattle.kl_history.specs.declared.record.InstallWhy.{InstallWhy}
 use Rattle.kl_history.specs.declared.record.InstallWhy.TheVariants.{Add, Replace, Reactivate}
-use Rattle.kl_history.specs.Records.{History, Past, past_of, begins, closes, own, is_install, is_begin, is_close, is_release, is_settling, generations, polls, handings, open_polls, open_releases}
+use Rattle.kl_history.specs.Records.{History, Past, past_of, begins, closes, own, is_install, is_begin, is_close, is_release, is_settling, generations, polls, releases_made, open_polls, open_releases}
 use Rattle.kl_history.specs.LookBacks.{Installed, installed}
 use Rattle.kl_history.specs.States.{is_current}
 use Rattle.kl_history.specs.Legal.{is_add, is_remove, MayInstall, IsBusy, Row, weight_of, HasRoom, HasBytes, Fits}
+use Rattle.kl_history.proofs.OwnRecords.{own-yes}
 use Rattle.kl_core.specs.declared.entry.Entry.{Entry}
 use Rattle.kl_core.specs.declared.entry.Opening.{Opening}
 use Rattle.kl_core.specs.Inner.Keeping.{terms_at, Says, IsEntry, HasEntry, HasOpening, IsBook}
@@ -29,7 +30,7 @@ use Rattle.kl_core.specs.Installs.{with_policy, reinstall}
 use Rattle.kl_core.specs.Inner.Steps.{renewed, polled, stopped}
 use Rattle.kl_core.proofs.OneMore.{past_of-snoc, counted, counted_as, Quiet, quiet_stop, quiet_remove, calm_install, calm_begin, numbers_nil, numbers_quiet, numbers_install, numbers_begin}
 use Rattle.kl_core.proofs.Texts.{eq_yes}
-use Rattle.kl_core.proofs.Ours.{own_ours, says_fresh, says_stopped}
+use Rattle.kl_core.proofs.Ours.{says_fresh, says_stopped}
 use Rattle.kl_core.proofs.Standing.{live_of, opening_at}
 use Rattle.kl_core.proofs.Keeping.{agents_at, polls_at, entry_step, has_theirs, newly, entry_fresh, begins_theirs, entry_polled, has_opening, closed_opening, opening_begun}
 
@@ -57,8 +58,8 @@ begun_below H past agents openings drawn begun weighs capacity waiting book =
     omega (arith, book.begun_is)
 
 -- what is kept has room after a record that opens and closes so many polls, and makes and settles so many releases
-pub fits_more : (past : Past) (r : Record) (opened closed made settled : ℕ) → count_by is_settling past ≤ handings past
-    → handings (r ∷ past) ≡ handings past + made → count_by is_settling (r ∷ past) ≡ count_by is_settling past + settled
+pub fits_more : (past : Past) (r : Record) (opened closed made settled : ℕ) → count_by is_settling past ≤ releases_made past
+    → releases_made (r ∷ past) ≡ releases_made past + made → count_by is_settling (r ∷ past) ≡ count_by is_settling past + settled
     → polls (r ∷ past) ≡ polls past + opened → count_by is_close (r ∷ past) ≡ count_by is_close past + closed → count_by is_close past ≤ polls past
     → length past + open_polls past + open_releases past + 1 + opened + made ≤ 1000000 + closed + settled
     → sum_by weight_of past + 16777216 * open_polls past + weight_of r + 16777216 * opened ≤ 1073741824 + 16777216 * closed
@@ -363,7 +364,7 @@ book_stopped H past agents agents' openings drawn begun weighs capacity capacity
     book_plain H past (Stop a) agents agents' openings drawn begun weighs capacity capacity' waiting book quiet (live_of H past a e entry live) (λ q. refl) (λ q. refl) refl refl refl refl refl
     (agents_at agents agents' a (Some (stopped e)) up (λ b o. HasEntry (H ++ Stop a ∷ []) (Stop a ∷ past) b o)
     (entry_step H past (Stop a) a e (stopped e) quiet.calm refl refl refl (λ q s is agent. refl) entry
-    (subst (λ (own_past : Past). Says own_past entry.with (stopped e)) (sym (own_ours past (Stop a) a (eq_yes a a refl))) (says_stopped (own past a) a entry.with e entry.says)))
+    (subst (λ (own_past : Past). Says own_past entry.with (stopped e)) (sym (own-yes (Stop a) past a (eq_yes a a refl))) (says_stopped (own past a) a entry.with e entry.says)))
     (λ b apart. has_theirs H past (Stop a) b _ quiet.calm (λ q s is agent. refl) apart (book.agents_are b)))
     (omega arith) room enough
 
@@ -376,7 +377,7 @@ book_removed H past agents agents' openings drawn begun weighs capacity capacity
     let quiet = quiet_remove past a in
     book_plain H past (Remove a) agents agents' openings drawn begun weighs capacity capacity' waiting book quiet present (λ q. refl) (λ q. refl) refl refl refl refl refl
     (agents_at agents agents' a None up (λ b o. HasEntry (H ++ Remove a ∷ []) (Remove a ∷ past) b o)
-    (ap installed (own_ours past (Remove a) a (eq_yes a a refl)))
+    (ap installed (own-yes (Remove a) past a (eq_yes a a refl)))
     (λ b apart. has_theirs H past (Remove a) b _ quiet.calm (λ q s is agent. refl) apart (book.agents_are b)))
     len room enough
 

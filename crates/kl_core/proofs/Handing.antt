@@ -19,9 +19,10 @@ use Rattle.kl_appraise.specs.Terms.{TermsFields}
 use Rattle.kl_history.specs.declared.record.Record.{Record}
 use Rattle.kl_history.specs.declared.record.Record.TheVariants.{Install, Begin, Verdict, Restart, Lost, Dropped, Release, Settled, Stop, Remove}
 use Rattle.kl_history.specs.declared.record.InstallWhy.TheVariants.{Add, Replace, Reactivate}
-use Rattle.kl_history.specs.Records.{History, Past, Handing, handing_of, releases, settles, is_unsettled, is_release_of, is_release, is_settling, handings, belongs, own}
+use Rattle.kl_history.specs.Records.{History, Past, Handing, handing_of, releases, settles, is_unsettled, is_release_of, is_release, is_settling, releases_made, belongs, own}
 use Rattle.kl_history.specs.States.{handed_for, PassedUnder, HasReached}
 use Rattle.kl_history.specs.Legal.{is_add, IsLegalPast}
+use Rattle.kl_history.proofs.OwnRecords.{own-yes, own-no}
 use Rattle.kl_core.specs.declared.entry.Entry.{Entry}
 use Rattle.kl_core.specs.declared.entry.Handed.{Handed}
 use Rattle.kl_core.specs.declared.entry.Passed.{Passed}
@@ -29,12 +30,11 @@ use Rattle.kl_core.specs.declared.reached.Target.{Target}
 use Rattle.kl_core.specs.Shares.{evidence_of, IsAwaited}
 use Rattle.kl_core.specs.Inner.Keeping.{terms_at, Tells, IsEntry}
 use Rattle.kl_core.specs.Inner.Reached.{target_cmp, target_of, has_place, is_marked, Reserves, MarksAt}
-use Rattle.kl_core.specs.Inner.Handing.{evidence_by, evidence_at, IsPlaced, IsHanded, IsReady, release_with, HasHanded, Reaches, IsHanding}
+use Rattle.kl_core.specs.Inner.Handing.{evidence_by, evidence_at, IsPlaced, HasSources, IsHanded, IsReady, release_with, HasHanded, Reaches, IsHanding}
 use Rattle.kl_core.specs.Inner.Settling.{settled_by, arrival, MarkedIf}
 use Rattle.kl_core.specs.Inner.Steps.{NotedIf, handed, is_boot, is_handed, is_hit, settled}
 use Rattle.kl_core.proofs.Texts.{same_or_not, eq_yes, eq_no}
 use Rattle.kl_core.proofs.OneMore.{counted_as, slice_get-front, slice_get-seam, terms_at-front, Calm, quiet_release}
-use Rattle.kl_core.proofs.Ours.{own_theirs, own_ours}
 use Rattle.kl_core.proofs.Keeping.{agents_at}
 use Rattle.kl_core.proofs.Marks.{marked, same_or_other}
 use Rattle.kl_core.proofs.Delivered.{evidence_stays, passed_stays, passed_once}
@@ -102,15 +102,15 @@ tells_on r past a b m no_settle no_add tells = by_belonging (belongs past a r) r
   by_belonging : (t : Bool) → belongs past a r ≡ t → Tells m (HasReached (own (r ∷ past) a) b)
   by_belonging true is =
       let same = reached_same r (own past a) b no_settle (no_add is) in
-      subst (λ (o : Past). Tells m (HasReached o b)) (sym (own_ours past r a is)) (λ yes'. same.1 (tells.0 yes'), λ no' has. tells.1 no' (same.0 has))
-  by_belonging false is = subst (λ (o : Past). Tells m (HasReached o b)) (sym (own_theirs past r a is)) tells
+      subst (λ (o : Past). Tells m (HasReached o b)) (sym (own-yes r past a is)) (λ yes'. same.1 (tells.0 yes'), λ no' has. tells.1 no' (same.0 has))
+  by_belonging false is = subst (λ (o : Past). Tells m (HasReached o b)) (sym (own-no r past a is)) tells
 
 handed_on : (r : Record) (past : Past) (a : List ℕ) (n p : ℕ) → releases n r ≡ false → (belongs past a r ≡ true → is_add r ≡ false)
     → handed_for n (own past a) ≡ Some p → handed_for n (own (r ∷ past) a) ≡ Some p
 handed_on r past a n p other no_add handed = by_belonging (belongs past a r) refl where
   by_belonging : (t : Bool) → belongs past a r ≡ t → handed_for n (own (r ∷ past) a) ≡ Some p
-  by_belonging true is = ap (handed_for n) (own_ours past r a is) ∙ handed_same r (own past a) n other (no_add is) ∙ handed
-  by_belonging false is = ap (handed_for n) (own_theirs past r a is) ∙ handed
+  by_belonging true is = ap (handed_for n) (own-yes r past a is) ∙ handed_same r (own past a) n other (no_add is) ∙ handed
+  by_belonging false is = ap (handed_for n) (own-no r past a is) ∙ handed
 
 -- ---- where evidence stands
 evidence_at-front : (H more : History) (place : ℕ) (e : Evidence) → evidence_at H place ≡ Some e → evidence_at (H ++ more) place ≡ Some e
@@ -134,18 +134,23 @@ placed_now H past e s v c k at = (
 unsettled_same : (r : Record) (past : Past) (n : ℕ) → releases n r ≡ false → settles n r ≡ false → is_unsettled (r ∷ past) n ≡ is_unsettled past n
 unsettled_same r past n no_make no_settle = ap₂ (λ s m. not s && (m || is_unsettled past n)) no_settle no_make
 
-has_handed : (H : History) (past : Past) (r : Record) (n : ℕ) (o : Option Handed) → IsLegalPast (r ∷ past) → Calm past r → releases n r ≡ false → settles n r ≡ false
-    → HasHanded H past n o → HasHanded (H ++ r ∷ []) (r ∷ past) n o
-has_handed H past r n None legal calm no_make no_settle is = unsettled_same r past n no_make no_settle ∙ is
-has_handed H past r n (Some h) legal calm no_make no_settle is = record {
+sources_stay : (H : History) (past : Past) (r : Record) (h : Handed) → IsLegalPast (r ∷ past) → Calm past r → HasSources H past h → HasSources (H ++ r ∷ []) (r ∷ past) h
+sources_stay H past r h legal calm is = record {
   with = is.with;
   place_is = terms_at-front H (r ∷ []) h.place is.with is.place_is;
   named = calm.terms h.generation is.with is.named;
   has_v = is.has_v;
-  released = handing_stays r past n _ legal is.released;
-  unsettled = unsettled_same r past n no_make no_settle ∙ is.unsettled;
   passed = placed_stays H past r h.pass legal is.passed;
   under = passed_stays r past h.agent h.pass.poll h.pass.boot is.under;
+}
+
+has_handed : (H : History) (past : Past) (r : Record) (n : ℕ) (o : Option Handed) → IsLegalPast (r ∷ past) → Calm past r → releases n r ≡ false → settles n r ≡ false
+    → HasHanded H past n o → HasHanded (H ++ r ∷ []) (r ∷ past) n o
+has_handed H past r n None legal calm no_make no_settle is = unsettled_same r past n no_make no_settle ∙ is
+has_handed H past r n (Some h) legal calm no_make no_settle is = record {
+  sources = sources_stay H past r h legal calm is.sources;
+  released = handing_stays r past n _ legal is.released;
+  unsettled = unsettled_same r past n no_make no_settle ∙ is.unsettled;
 }
 
 -- ---- a record that neither makes nor settles a release
@@ -160,10 +165,10 @@ some_bool true is = absurd (is refl)
 some_bool false is = refl
 
 no_more_reached : (past : Past) (a : List ℕ) (g : ℕ) (t : TermsFields) (b : Boot) → ¬ (HasReached (own (Install a g t Add ∷ past) a) b)
-no_more_reached past a g t b has = subst (λ (o : Past). HasReached o b) (own_ours past (Install a g t Add) a (eq_yes a a refl)) has
+no_more_reached past a g t b has = subst (λ (o : Past). HasReached o b) (own-yes (Install a g t Add) past a (eq_yes a a refl)) has
 
 no_more_handed : (past : Past) (a : List ℕ) (g : ℕ) (t : TermsFields) (n p : ℕ) → ¬ (handed_for n (own (Install a g t Add ∷ past) a) ≡ Some p)
-no_more_handed past a g t n p is = none-some p (sym (ap (handed_for n) (own_ours past (Install a g t Add) a (eq_yes a a refl))) ∙ is)
+no_more_handed past a g t n p is = none-some p (sym (ap (handed_for n) (own-yes (Install a g t Add) past a (eq_yes a a refl))) ∙ is)
 
 module _ (H : History) (past : Past) (r : Record) (agents : BTreeMap (List ℕ) Entry) (held : BTreeMap ℕ Handed) (marks : BTreeMap Target Bool) (drawn drawn' made : ℕ)
     (handing : IsHanding H past agents held marks drawn made) (legal : IsLegalPast (r ∷ past)) (no_make : is_release r ≡ false) (no_settle : is_settling r ≡ false) (grows : drawn ≤ drawn') where
@@ -232,7 +237,7 @@ module _ (H : History) (past : Past) (agents : BTreeMap (List ℕ) Entry) (held 
   r = release_with n h
 
   ours : own (r ∷ past) h.agent ≡ r ∷ own past h.agent
-  ours = own_ours past r h.agent (eq_yes h.agent h.agent refl)
+  ours = own-yes r past h.agent (eq_yes h.agent h.agent refl)
 
   same_marks : (b : List ℕ) (f : Entry) (c : Boot) → Tells (is_marked marks (target_of b f.added c)) (HasReached (own past b) c) → Tells (is_marked marks' (target_of b f.added c)) (HasReached (own (r ∷ past) b) c)
   same_marks b f c tells =
@@ -266,7 +271,7 @@ module _ (H : History) (past : Past) (agents : BTreeMap (List ℕ) Entry) (held 
   reaches_theirs : (b : List ℕ) (f : Entry) → bytes_eq b h.agent ≡ false → get (slice_cmp nat_cmp) agents b ≡ Some f → Reaches (H ++ r ∷ []) (r ∷ past) marks' drawn b f
   reaches_theirs b f apart at =
       let before = handing.agents_reach b f at in
-      let theirs = own_theirs past r b apart in
+      let theirs = own-no r past b apart in
       record {
         added_drawn = before.added_drawn;
         pass_placed = λ c is. placed_stays H past r c legal (before.pass_placed c is);
@@ -277,14 +282,9 @@ module _ (H : History) (past : Past) (agents : BTreeMap (List ℕ) Entry) (held 
 
   held_now : IsHanded (H ++ r ∷ []) (r ∷ past) n h
   held_now = record {
-    with = ready.with;
-    place_is = terms_at-front H (r ∷ []) h.place ready.with ready.place_is;
-    named = ready.named;
-    has_v = ready.has_v;
+    sources = sources_stay H past r h legal (quiet_release past n h.agent h.generation h.pass.poll).calm ready.sources;
     released = cond-true (eqb n n) _ _ (eq-eqb n n refl);
     unsettled = ap (λ b. b || is_unsettled past n) (eq-eqb n n refl);
-    passed = placed_stays H past r h.pass legal ready.passed;
-    under = passed_stays r past h.agent h.pass.poll h.pass.boot ready.under;
   }
 
   pub handing_released : (agents' : BTreeMap (List ℕ) Entry) (held' : BTreeMap ℕ Handed) → n ≡ made + 1
@@ -388,14 +388,14 @@ module _ (H : History) (past : Past) (agents : BTreeMap (List ℕ) Entry) (held 
               last.0,
               last.1,
               subst (λ (c : Boot). PassedUnder last.0 (own past h.agent) c) (sym (same_boot b h.pass.boot parts.1))
-                  (subst (λ (p : ℕ). PassedUnder p (own past h.agent) h.pass.boot) (sym poll) open_one.under),
+                  (subst (λ (p : ℕ). PassedUnder p (own past h.agent) h.pass.boot) (sym poll) open_one.sources.under),
             ),
         λ no' (p, was_handed, under).
             let last = before.awaited n (p, was_handed, open_one.unsettled) in
             let it = handed_made past h.agent n p legal was_handed in
             let poll : p ≡ h.pass.poll = sym it.poll ∙ ap (λ (x : Handing). x.poll) (same_Some _ _ (sym it.made ∙ open_one.released)) in
             let same : b ≡ h.pass.boot =
-            passed_once past h.agent h.pass.poll b h.pass.boot legal (subst (λ (q : ℕ). PassedUnder q (own past h.agent) b) poll under) open_one.under in
+            passed_once past h.agent h.pass.poll b h.pass.boot legal (subst (λ (q : ℕ). PassedUnder q (own past h.agent) b) poll under) open_one.sources.under in
             both_ways (is_handed n e && is_boot b h.pass.boot) no'
             (ap₂ ◌&&◌ (is_last e.handed n last) (ap (λ (c : Boot). is_boot c h.pass.boot) same ∙ own_boot h.pass.boot)),
       )
@@ -498,7 +498,7 @@ module _ (H : History) (past : Past) (agents : BTreeMap (List ℕ) Entry) (held 
   belongs_is a = ap (λ o. option_map_or (λ (x : Handing). bytes_eq a x.agent) o false) open_one.released
 
   its_own : own (s ∷ past) h.agent ≡ s ∷ own past h.agent
-  its_own = own_ours past s h.agent (belongs_is h.agent ∙ eq_yes h.agent h.agent refl)
+  its_own = own-yes s past h.agent (belongs_is h.agent ∙ eq_yes h.agent h.agent refl)
 
   -- its agent's boots
   boots_settled : (e : Entry) (b : Boot) → entry ≡ Some e → Tells (is_marked marks' (target_of h.agent e.added b)) (HasReached (s ∷ own past h.agent) b)
@@ -535,7 +535,7 @@ module _ (H : History) (past : Past) (agents : BTreeMap (List ℕ) Entry) (held 
   reaches_other : (b : List ℕ) (f : Entry) → bytes_eq b h.agent ≡ false → get (slice_cmp nat_cmp) agents b ≡ Some f → Reaches (H ++ s ∷ []) (s ∷ past) marks' drawn b f
   reaches_other b f apart at =
       let before = handing.agents_reach b f at in
-      let theirs = own_theirs past s b (belongs_is b ∙ apart) in
+      let theirs = own-no s past b (belongs_is b ∙ apart) in
       record {
         added_drawn = before.added_drawn;
         pass_placed = λ k has. placed_stays H past s k legal (before.pass_placed k has);

@@ -14,11 +14,12 @@ use Rattle.kl_incr.specs.Kept.{TicketFields}
 use Rattle.kl_history.specs.declared.record.Record.{Record}
 use Rattle.kl_history.specs.declared.record.Record.TheVariants.{Install, Begin}
 use Rattle.kl_history.specs.declared.record.InstallWhy.{InstallWhy}
-use Rattle.kl_history.specs.Records.{History, Past, Start, start_of, begins, closes, is_open, belongs, own, generations, polls}
+use Rattle.kl_history.specs.Records.{History, Past, Beginning, start_of, begins, closes, is_open, belongs, own, generations, polls}
 use Rattle.kl_history.specs.LookBacks.{installed}
 use Rattle.kl_history.specs.Accepted.{WasAccepted}
 use Rattle.kl_history.specs.States.{HasReached}
 use Rattle.kl_history.specs.Legal.{IsBusy}
+use Rattle.kl_history.proofs.OwnRecords.{own-yes, own-no}
 use Rattle.kl_core.specs.declared.entry.Entry.{Entry}
 use Rattle.kl_core.specs.declared.entry.Opening.{Opening}
 use Rattle.kl_core.specs.Tickets.{IsGiven}
@@ -26,7 +27,7 @@ use Rattle.kl_core.specs.Inner.Keeping.{Says, IsPollOf, IsEntry, HasEntry, ticke
 use Rattle.kl_core.specs.Inner.Steps.{latest_poll, fresh, polled}
 use Rattle.kl_core.proofs.Texts.{same_or_not, eq_yes, eq_no}
 use Rattle.kl_core.proofs.OneMore.{Calm, terms_at-front, terms_at-end, calm_begin}
-use Rattle.kl_core.proofs.Ours.{own_theirs, own_ours, was_own, was_now, says_polled}
+use Rattle.kl_core.proofs.Ours.{was_own, was_now, says_polled}
 
 -- ---- maps with one key changed
 pub agents_at : (m n : BTreeMap (List ℕ) Entry) (b : List ℕ) (w : Option Entry) → Updates (slice_cmp nat_cmp) m n b w → (P : List ℕ → Option Entry → Type 0)
@@ -71,7 +72,7 @@ poll_after past r a g q calm poll = record {
 
 -- a record begins no poll of the agent
 abbrev pub BeginsNone : Past → Record → List ℕ → Type 0
-BeginsNone past r a = (q : ℕ) (s : Start) → start_of (r ∷ past) q ≡ Some s → s.agent ≡ a → begins q r ≡ false
+BeginsNone past r a = (q : ℕ) (s : Beginning) → start_of (r ∷ past) q ≡ Some s → s.agent ≡ a → begins q r ≡ false
 
 -- what is kept of an agent under the same generation
 pub entry_step : (H : History) (past : Past) (r : Record) (a : List ℕ) (e f : Entry) → Calm past r → f.generation ≡ e.generation → f.place ≡ e.place → latest_poll f ≡ latest_poll e
@@ -91,9 +92,9 @@ entry_step H past r a e f calm same_generation same_place same_latest none entry
 -- what is kept of an agent whose the record is not
 pub has_theirs : (H : History) (past : Past) (r : Record) (a : List ℕ) (o : Option Entry) → Calm past r → BeginsNone past r a → belongs past a r ≡ false
     → HasEntry H past a o → HasEntry (H ++ r ∷ []) (r ∷ past) a o
-has_theirs H past r a None calm none apart is = ap installed (own_theirs past r a apart) ∙ is
+has_theirs H past r a None calm none apart is = ap installed (own-no r past a apart) ∙ is
 has_theirs H past r a (Some e) calm none apart is =
-    entry_step H past r a e e calm refl refl refl none is (subst (λ (own_past : Past). Says own_past is.with e) (sym (own_theirs past r a apart)) is.says)
+    entry_step H past r a e e calm refl refl refl none is (subst (λ (own_past : Past). Says own_past is.with e) (sym (own-no r past a apart)) is.says)
 
 -- what is kept of an agent that was installed now
 abbrev pub newly : ℕ → ℕ → Bool → ℕ → Option ℕ → Entry
@@ -107,7 +108,7 @@ entry_fresh H past a g t w v added handed numbers next says = record {
   with = t;
   place_is = terms_at-end H a g t w;
   named = cond-true (eqb g g) _ _ (eq-eqb g g refl);
-  says = subst (λ (own_past : Past). Says own_past t (newly g (length H) v added handed)) (sym (own_ours past (Install a g t w) a (eq_yes a a refl))) says;
+  says = subst (λ (own_past : Past). Says own_past t (newly g (length H) v added handed)) (sym (own-yes (Install a g t w) past a (eq_yes a a refl))) says;
   busy_is_latest = λ q busy. absurd (let le = numbers.under_within q busy.started busy.began in let e = busy.generation in omega arith);
   latest_is_its = λ q is. absurd (none-some q is);
 }
@@ -116,7 +117,7 @@ entry_fresh H past a g t w v added handed numbers next says = record {
 pub begins_theirs : (past : Past) (p : ℕ) (b : List ℕ) (g : ℕ) (n : List ℕ) (at from : ℕ) (a : List ℕ) → bytes_eq a b ≡ false → BeginsNone past (Begin p b g n at from) a
 begins_theirs past p b g n at from a apart q s is agent = elim (cases_eq q p) [
   | inl e ↦
-      let named = ap (λ (s : Start). s.agent) (same_Some _ _ (sym (cond-true (eqb q p) _ _ (eq-eqb q p e)) ∙ is)) in
+      let named = ap (λ (s : Beginning). s.agent) (same_Some _ _ (sym (cond-true (eqb q p) _ _ (eq-eqb q p e)) ∙ is)) in
       absurd (both_ways (bytes_eq a b) apart (eq_yes a b (sym agent ∙ sym named)))
   | inr ne ↦ ne_eqb q p ne
 ]
@@ -130,7 +131,7 @@ entry_polled H past p a n at from e numbers next idle entry =
       with = entry.with;
       place_is = terms_at-front H (Begin p a e.generation n at from ∷ []) e.place entry.with entry.place_is;
       named = entry.named;
-      says = subst (λ (own_past : Past). Says own_past entry.with (polled p at e)) (sym (own_ours past (Begin p a e.generation n at from) a (eq_yes a a refl)))
+      says = subst (λ (own_past : Past). Says own_past entry.with (polled p at e)) (sym (own-yes (Begin p a e.generation n at from) past a (eq_yes a a refl)))
           (says_polled (own past a) p a e.generation n at from entry.with e entry.says);
       busy_is_latest = λ q busy. elim (cases_eq q p) [
         | inl is ↦ ap (λ k. Some k) (sym is)
@@ -180,7 +181,7 @@ opening_begun H past p a n at e entry =
       accepted = (
         accepted.0,
         accepted.1,
-        subst (λ (own_past : Past). WasAccepted p own_past accepted.0 accepted.1) (sym (own_ours past (Begin p a e.generation n at 0) a (eq_yes a a refl)))
+        subst (λ (own_past : Past). WasAccepted p own_past accepted.0 accepted.1) (sym (own-yes (Begin p a e.generation n at 0) past a (eq_yes a a refl)))
             (was_now (own past a) p a e.generation n at 0 accepted.0 accepted.1 accepted.2),
       );
     }

@@ -35,7 +35,7 @@ use Rattle.kl_core.specs.declared.refusal.Refusal.TheVariants.{NoAgent, Exists, 
 use Rattle.kl_core.specs.Installs.{RefusesAdd, Adds, RefusesReplace, Replaces, RefusesReactivate, Reactivates}
 use Rattle.kl_core.specs.Endings.{RefusesStop, Stops, RefusesRemove, Removes}
 use Rattle.kl_core.specs.Begins.{MayPoll, IsPolled, RefusesBegin, Begins, BeginAnswers}
-use Rattle.kl_core.specs.Shares.{ShareFields, evidence_of, IsIn, IsOwed, RefusesRelease, Gives, Releases}
+use Rattle.kl_core.specs.Shares.{ShareFields, evidence_of, IsOwed, RefusesRelease, Gives, Releases}
 use Rattle.kl_core.specs.declared.closed.Closed.{Closed}
 use Rattle.kl_core.specs.declared.closed.ClosedAs.{ClosedAs}
 use Rattle.kl_core.specs.declared.closed.ClosedAs.TheVariants.{Lost, Dropped}
@@ -229,13 +229,13 @@ one_begin H a n at legal (Err e) (Ok u) x y k m = absurd (k (no_begin_refusal (p
 one_begin H a n at legal (Err e) (Err f) x y k m = ap Err (one_begin_refusal H a e f legal x y k m)
 
 -- ---- release
-one_state_in : (past : Past) (a : List ℕ) (o p : Op) → IsIn past a o → IsIn past a p → o ≡ p
+one_state_in : (past : Past) (a : List ℕ) (o p : Op) → HasOp (own past a) (Some o) → HasOp (own past a) (Some p) → o ≡ p
 one_state_in past a o p x y = same_Some o p ((are_one (own past a)).state (Some o) (Some p) x y)
 
-not_in : (past : Past) (a : List ℕ) (o : Op) → installed (own past a) ≡ None → ¬ (IsIn past a o)
+not_in : (past : Past) (a : List ℕ) (o : Op) → installed (own past a) ≡ None → ¬ (HasOp (own past a) (Some o))
 not_in past a o none is = both_ways (is_some (installed (own past a))) (ap is_some none) is.0
 
-not_owed : (past : Past) (a : List ℕ) (o : Op) → IsIn past a o → is_owed o ≡ false → ¬ (IsOwed past a)
+not_owed : (past : Past) (a : List ℕ) (o : Op) → HasOp (own past a) (Some o) → is_owed o ≡ false → ¬ (IsOwed past a)
 not_owed past a o is none (p, also, owed) = both_ways (is_owed o) none (ap is_owed (one_state_in past a o p is also) ∙ owed)
 
 one_release_refusal : (H : History) (a : List ℕ) (x y : Refusal) → Legal H → RefusesRelease (past_of H) a x → RefusesRelease (past_of H) a y → x ≢ Memory → y ≢ Memory
@@ -285,7 +285,7 @@ one_share : (past : Past) (a : List ℕ) (s t : ShareFields) → Gives a s past 
 one_share past a s t x y =
     let first = given_rule past a s x in
     let second = given_rule past a t y in
-    let generation : s.generation ≡ t.generation = first.named ∙ ap (λ (i : Installed). i.generation) (one_installed past a first.due.with second.due.with first.due.installed second.due.installed) ∙ sym second.named in
+    let generation : s.generation ≡ t.generation = first.named ∙ ap (λ (i : Installed). i.generation) (one_installed past a first.due.installation second.due.installation first.due.installed second.due.installed) ∙ sym second.named in
     let poll : s.poll ≡ t.poll = first.stands ∙ ap (λ (k : Passing). k.poll) (same_Some first.due.pass second.due.pass (sym first.due.passed ∙ second.due.passed)) ∙ sym second.stands in
     let terms = same_Some x.given.terms y.given.terms (sym x.given.under ∙ ap (terms_of past) generation ∙ y.given.under) in
     let evidence = same_Some x.given.evidence y.given.evidence (sym x.given.passed ∙ ap (evidence_of past) poll ∙ y.given.passed) in

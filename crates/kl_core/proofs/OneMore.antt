@@ -10,7 +10,7 @@ use Rattle.kl_appraise.specs.Terms.{TermsFields}
 use Rattle.kl_history.specs.declared.record.Record.{Record}
 use Rattle.kl_history.specs.declared.record.Record.TheVariants.{Install, Begin, Verdict, Restart, Lost, Dropped, Release, Settled, Stop, Remove}
 use Rattle.kl_history.specs.declared.record.InstallWhy.{InstallWhy}
-use Rattle.kl_history.specs.Records.{History, Past, past_of, Start, start_of, begins, closes, is_open, terms_of, is_install, is_begin, generations, polls}
+use Rattle.kl_history.specs.Records.{History, Past, past_of, Beginning, start_of, begins, closes, is_open, terms_of, is_install, is_begin, generations, polls}
 use Rattle.kl_core.specs.Inner.Keeping.{terms_by, terms_at, Numbers}
 
 pub past_of-snoc : (H : History) (r : Record) → past_of (H ++ r ∷ []) ≡ r ∷ past_of H
@@ -46,7 +46,7 @@ terms_at-end H a g t w = ap (λ o. option_and_then terms_by o) (slice_get-seam H
 pub record Calm (past : Past) (r : Record) : Type 0 where
   pub starts : (q : ℕ) → begins q r ≡ false → start_of (r ∷ past) q ≡ start_of past q
   pub opened : (q : ℕ) → begins q r ≡ false → is_open (r ∷ past) q ≡ (not (closes q r) && is_open past q)
-  pub fresh : (q : ℕ) (s : Start) → start_of past q ≡ Some s → begins q r ≡ false
+  pub fresh : (q : ℕ) (s : Beginning) → start_of past q ≡ Some s → begins q r ≡ false
   pub terms : (g : ℕ) (t : TermsFields) → terms_of past g ≡ Some t → terms_of (r ∷ past) g ≡ Some t
 
 -- a record that neither begins a poll nor installs
@@ -90,7 +90,7 @@ calm_install past a g t w named next = record {
   terms = λ h u is. cond-false (eqb h g) _ _ (ne_eqb h g (λ e. let le = named h u is in omega arith)) ∙ is;
 }
 
-pub calm_begin : (past : Past) (p : ℕ) (a : List ℕ) (g : ℕ) (n : List ℕ) (at from : ℕ) → ((q : ℕ) (s : Start) → start_of past q ≡ Some s → q ≤ polls past) → p ≡ polls past + 1
+pub calm_begin : (past : Past) (p : ℕ) (a : List ℕ) (g : ℕ) (n : List ℕ) (at from : ℕ) → ((q : ℕ) (s : Beginning) → start_of past q ≡ Some s → q ≤ polls past) → p ≡ polls past + 1
     → Calm past (Begin p a g n at from)
 calm_begin past p a g n at from begun next = record {
   starts = λ q is. cond-false (eqb q p) _ _ is;
@@ -136,7 +136,7 @@ numbers_begin past p a g n at from numbers next drawn =
         | inr ne ↦ let le = numbers.begun_within q s (sym (cond-false (eqb q p) _ _ (ne_eqb q p ne)) ∙ is) in omega arith
       ];
       under_within = λ q s is. elim (cases_eq q p) [
-        | inl e ↦ let same = ap (λ (s : Start). s.generation) (same_Some _ _ (sym (cond-true (eqb q p) _ _ (eq-eqb q p e)) ∙ is)) in omega arith
+        | inl e ↦ let same = ap (λ (s : Beginning). s.generation) (same_Some _ _ (sym (cond-true (eqb q p) _ _ (eq-eqb q p e)) ∙ is)) in omega arith
         | inr ne ↦ let le = numbers.under_within q s (sym (cond-false (eqb q p) _ _ (ne_eqb q p ne)) ∙ is) in omega arith
       ];
       named_within = λ h u is. let le = numbers.named_within h u is in omega arith;

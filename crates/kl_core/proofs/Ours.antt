@@ -1,7 +1,7 @@
--- Which agent a record belongs to, and what one record more does to what an agent's own records say.
+-- What one record more does to what an agent's own records say.
 use Rattle.std.proofs.Common.{◌≡◌, ℕ, suc, ◌+◌, ◌<◌, ◌≤◌, Bool, true, false, cond, ◌||◌, List, [], ◌∷◌, Option, Some, None, refl, ap, sym, ◌∙◌, subst, arith}
 use Rattle.std.specs.Prelude.{is_some}
-use Rattle.std.proofs.lemmas.Bool.{cond-false, cond-true, eq-eqb, or_parts, both_ways}
+use Rattle.std.proofs.lemmas.Bool.{cond-false, eq-eqb, or_parts, both_ways}
 use Rattle.std.proofs.lemmas.Option.{same_Some, none-some}
 use lib.Dec.{eqb}
 use Rattle.kl_entry.specs.Entries.{EntryFields}
@@ -22,18 +22,12 @@ use Rattle.kl_history.specs.Records.{Past, begins, belongs, own}
 use Rattle.kl_history.specs.LookBacks.{came, losses, missed}
 use Rattle.kl_history.specs.Accepted.{no_boot, SignsBoot, HasAccepted, IsAccepted, WasAccepted}
 use Rattle.kl_history.specs.States.{ended, is_stop, is_invalid, is_failed, HasReached}
+use Rattle.kl_history.proofs.OwnRecords.{own-step}
 use Rattle.kl_core.specs.declared.entry.Entry.{Entry}
 use Rattle.kl_core.specs.declared.entry.Passed.{Passed}
 use Rattle.kl_core.specs.Inner.Keeping.{Says, Tells}
 use Rattle.kl_core.specs.States.{Accepted}
 use Rattle.kl_core.specs.Inner.Steps.{fresh, stopped, polled, lost, found, handed, settled}
-
--- ---- whose a record is
-pub own_theirs : (past : Past) (r : Record) (a : List ℕ) → belongs past a r ≡ false → own (r ∷ past) a ≡ own past a
-own_theirs past r a is = cond-false (belongs past a r) _ _ is
-
-pub own_ours : (past : Past) (r : Record) (a : List ℕ) → belongs past a r ≡ true → own (r ∷ past) a ≡ r ∷ own past a
-own_ours past r a is = cond-true (belongs past a r) _ _ is
 
 -- ---- what was accepted when a poll began stays
 was_stays : (r : Record) (past : Past) (p : ℕ) (entries : List EntryFields) (boot : Boot) → begins p r ≡ false → WasAccepted p past entries boot → WasAccepted p (r ∷ past) entries boot
@@ -51,10 +45,8 @@ was_stays (Remove a) past p entries boot apart was = was
 
 pub was_own : (past : Past) (r : Record) (a : List ℕ) (p : ℕ) (entries : List EntryFields) (boot : Boot) → begins p r ≡ false
     → WasAccepted p (own past a) entries boot → WasAccepted p (own (r ∷ past) a) entries boot
-was_own past r a p entries boot apart was = by_belonging (belongs past a r) refl where
-  by_belonging : (b : Bool) → belongs past a r ≡ b → WasAccepted p (own (r ∷ past) a) entries boot
-  by_belonging true is = subst (λ (o : Past). WasAccepted p o entries boot) (sym (own_ours past r a is)) (was_stays r (own past a) p entries boot apart was)
-  by_belonging false is = subst (λ (o : Past). WasAccepted p o entries boot) (sym (own_theirs past r a is)) was
+was_own past r a p entries boot apart was =
+    own-step (λ (new old : Past). WasAccepted p old entries boot → WasAccepted p new entries boot) r past a (λ _ there. was_stays r (own past a) p entries boot apart there) (λ _ there. there) was
 
 -- what is accepted when a poll begins
 pub was_now : (past : Past) (p : ℕ) (a : List ℕ) (g : ℕ) (n : List ℕ) (at from : ℕ) (entries : List EntryFields) (boot : Boot)

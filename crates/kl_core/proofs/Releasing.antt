@@ -20,12 +20,13 @@ use Rattle.kl_notice.specs.declared.notice.FailWhy.{FailWhy}
 use Rattle.kl_notice.specs.declared.notice.FailWhy.TheVariants.{Undelivered}
 use Rattle.kl_history.specs.declared.record.Record.{Record}
 use Rattle.kl_history.specs.declared.record.Record.TheVariants.{Release, Settled}
-use Rattle.kl_history.specs.Records.{History, Past, Handing, handing_of, is_unsettled, belongs, own, is_install, is_begin, is_close, is_release, is_settling, generations, polls, handings, open_polls, open_releases}
+use Rattle.kl_history.specs.Records.{History, Past, Handing, handing_of, is_unsettled, belongs, own, is_install, is_begin, is_close, is_release, is_settling, generations, polls, releases_made, open_polls, open_releases}
 use Rattle.kl_history.specs.LookBacks.{Installed, installed, Passing, last_pass}
 use Rattle.kl_history.specs.States.{ended, is_current, handed_for, IsOp}
 use Rattle.kl_history.specs.Legal.{is_add, is_remove, MaySettle, Row, weight_of, HasRoom, Fits}
 use Rattle.kl_history.specs.Releases.{MayRelease}
 use Rattle.kl_history.specs.Notices.{Failure, has_failed, failure}
+use Rattle.kl_history.proofs.OwnRecords.{own-yes}
 use Rattle.kl_core.specs.declared.entry.Entry.{Entry}
 use Rattle.kl_core.specs.declared.entry.Handed.{Handed}
 use Rattle.kl_core.specs.declared.entry.Opening.{Opening}
@@ -38,7 +39,7 @@ use Rattle.kl_core.specs.Inner.Settling.{settled_by, only_if, settle_why}
 use Rattle.kl_core.specs.Inner.Steps.{NotedIf, is_due, op_of, live_op, handed, is_hit, settled}
 use Rattle.kl_core.proofs.Texts.{eq_yes, same_or_not}
 use Rattle.kl_core.proofs.OneMore.{counted, Calm, Quiet, quiet_release, quiet_settled, numbers_quiet}
-use Rattle.kl_core.proofs.Ours.{own_ours, says_released, NowReached, says_settled, says_settled_late}
+use Rattle.kl_core.proofs.Ours.{says_released, NowReached, says_settled, says_settled_late}
 use Rattle.kl_core.proofs.Standing.{due, op_stands, live_of, current_is}
 use Rattle.kl_core.proofs.Keeping.{agents_at, entry_step, has_theirs, has_opening}
 use Rattle.kl_core.proofs.Growing.{fits_more}
@@ -75,7 +76,7 @@ book_released H past agents agents' openings drawn begun weighs capacity capacit
       numbers = numbers_quiet past r quiet book.numbers;
       agents_are = agents_at agents agents' a (Some (handed n e)) up (λ b o. HasEntry (H ++ r ∷ []) (r ∷ past) b o)
           (entry_step H past r a e (handed n e) quiet.calm refl refl refl (λ q started is agent. refl) entry
-          (subst (λ (own_past : Past). Says own_past entry.with (handed n e)) (sym (own_ours past r a (eq_yes a a refl))) (says_released (own past a) n a g p entry.with e entry.says)))
+          (subst (λ (own_past : Past). Says own_past entry.with (handed n e)) (sym (own-yes r past a (eq_yes a a refl))) (says_released (own past a) n a g p entry.with e entry.says)))
           (λ b apart. has_theirs H past r b _ quiet.calm (λ q started is agent. refl) apart (book.agents_are b));
       polls_are = λ q. has_opening H past r q _ quiet.calm refl refl (book.polls_are q);
       drawn_is = omega (arith, book.drawn_is);
@@ -116,7 +117,7 @@ module _ (H : History) (past : Past) (n : ℕ) (o : Outcome) (now : Bool) (h : H
   belongs_is a = ap (λ o. option_map_or (λ (x : Handing). bytes_eq a x.agent) o false) open_one.released
 
   its_own : own (s ∷ past) h.agent ≡ s ∷ own past h.agent
-  its_own = own_ours past s h.agent (belongs_is h.agent ∙ eq_yes h.agent h.agent refl)
+  its_own = own-yes s past h.agent (belongs_is h.agent ∙ eq_yes h.agent h.agent refl)
 
   -- where it is current, the agent is live
   live_now : (b : Bool) → now ≡ b → b ≡ true → ended (own past h.agent) ≡ None
@@ -155,7 +156,7 @@ module _ (H : History) (past : Past) (n : ℕ) (o : Outcome) (now : Bool) (h : H
         | inl it ↦
             let none : get (slice_cmp nat_cmp) agents a ≡ None = ap (get (slice_cmp nat_cmp) agents) it.1 ∙ kept in
             subst (λ x. HasEntry (H ++ s ∷ []) (s ∷ past) a x) (sym none)
-            (ap installed (own_ours past s a (belongs_is a ∙ it.0)) ∙ subst (λ x. HasEntry H past a x) none (are a))
+            (ap installed (own-yes s past a (belongs_is a ∙ it.0)) ∙ subst (λ x. HasEntry H past a x) none (are a))
         | inr other ↦ has_theirs H past s a _ quiet.calm (λ q started is agent. refl) (belongs_is a ∙ other.0) (are a)
       ])
 

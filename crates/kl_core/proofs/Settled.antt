@@ -40,9 +40,6 @@ use Rattle.kl_core.proofs.Holding.{handing_in_order}
 use Rattle.kl_core.proofs.Releasing.{book_settled, entries_settled, settle_fails}
 
 -- ---- what is kept of a release
-pub held_at : (H : History) (past : Past) (n : ℕ) (o : Option Handed) (h : Handed) → HasHanded H past n o → o ≡ Some h → IsHanded H past n h
-held_at H past n o h has is = subst (λ (x : Option Handed). HasHanded H past n x) is has
-
 -- of one that is not settled something is kept
 pub held_of : (H : History) (past : Past) (n : ℕ) (o : Option Handed) → HasHanded H past n o → is_unsettled past n ≡ true → (h : Handed) × (o ≡ Some h) × IsHanded H past n h
 held_of H past n None has is = absurd (both_ways (is_unsettled past n) has is)
@@ -71,17 +68,17 @@ same_handing h s same =
 pub share_of : (H : History) (past : Past) (s : ShareFields) (h : Handed) → IsHanded H past s.number h → Matches h s
     → HasParts (terms_at H h.place) (evidence_at H h.pass.place) s → IsOpenShare past s
 share_of H past s h held same parts =
-    let placed = subst (λ (o : Option TermsFields). HasParts o (evidence_at H h.pass.place) s) held.place_is parts in
-    let it : HasParts (Some held.with) (Some held.passed.0) s = subst (λ (o : Option Evidence). HasParts (Some held.with) o s) held.passed.1 placed in (
+    let placed = subst (λ (o : Option TermsFields). HasParts o (evidence_at H h.pass.place) s) held.sources.place_is parts in
+    let it : HasParts (Some held.sources.with) (Some held.sources.passed.0) s = subst (λ (o : Option Evidence). HasParts (Some held.sources.with) o s) held.sources.passed.1 placed in (
       held.unsettled,
       record {
         released = held.released ∙ ap (λ (x : Handing). Some x) (same_handing h s same);
-        terms = held.with;
-        under = ap (terms_of past) (sym same.generation) ∙ held.named;
+        terms = held.sources.with;
+        under = ap (terms_of past) (sym same.generation) ∙ held.sources.named;
         v = it.0;
         contact = it.1;
-        evidence = held.passed.0;
-        passed = ap (evidence_of past) (sym same.poll) ∙ held.passed.2;
+        evidence = held.sources.passed.0;
+        passed = ap (evidence_of past) (sym same.poll) ∙ held.sources.passed.2;
         public = it.2;
       },
     )
@@ -90,11 +87,11 @@ pub parts_of : (H : History) (past : Past) (s : ShareFields) (h : Handed) → Is
     → HasParts (terms_at H h.place) (evidence_at H h.pass.place) s
 parts_of H past s h held given =
     let same = matches H past s h held given in
-    let terms : given.terms ≡ held.with = same_Some _ _ (sym given.under ∙ ap (terms_of past) (sym same.generation) ∙ held.named) in
-    let evidence : given.evidence ≡ held.passed.0 = same_Some _ _ (sym given.passed ∙ ap (evidence_of past) (sym same.poll) ∙ held.passed.2) in
+    let terms : given.terms ≡ held.sources.with = same_Some _ _ (sym given.under ∙ ap (terms_of past) (sym same.generation) ∙ held.sources.named) in
+    let evidence : given.evidence ≡ held.sources.passed.0 = same_Some _ _ (sym given.passed ∙ ap (evidence_of past) (sym same.poll) ∙ held.sources.passed.2) in
     let parts : HasParts (Some given.terms) (Some given.evidence) s = (given.v, given.contact, given.public) in
-    subst (λ (o : Option TermsFields). HasParts o (evidence_at H h.pass.place) s) (ap (λ (t : TermsFields). Some t) terms ∙ sym held.place_is)
-    (subst (λ (o : Option Evidence). HasParts (Some given.terms) o s) (ap (λ (e : Evidence). Some e) evidence ∙ sym held.passed.1) parts)
+    subst (λ (o : Option TermsFields). HasParts o (evidence_at H h.pass.place) s) (ap (λ (t : TermsFields). Some t) terms ∙ sym held.sources.place_is)
+    (subst (λ (o : Option Evidence). HasParts (Some given.terms) o s) (ap (λ (e : Evidence). Some e) evidence ∙ sym held.sources.passed.1) parts)
 
 -- ---- a settlement
 module _ (H : History) (agents : BTreeMap (List ℕ) Entry) (openings : BTreeMap ℕ Opening) (held : BTreeMap ℕ Handed) (marks : BTreeMap Target Bool) (drawn begun weighs capacity made : ℕ)
@@ -108,9 +105,9 @@ module _ (H : History) (agents : BTreeMap (List ℕ) Entry) (openings : BTreeMap
   its_boot : (g : Handed) → IsHanded H (past_of H) s.number g → g.pass.boot ≡ h.pass.boot
   its_boot g other =
       let it = same_Some _ _ (sym other.released ∙ open_one.released) in
-      let under = subst (λ (a : List ℕ). PassedUnder g.pass.poll (own (past_of H) a) g.pass.boot) (ap (λ (x : Handing). x.agent) it) other.under in
+      let under = subst (λ (a : List ℕ). PassedUnder g.pass.poll (own (past_of H) a) g.pass.boot) (ap (λ (x : Handing). x.agent) it) other.sources.under in
       passed_once (past_of H) h.agent h.pass.poll g.pass.boot h.pass.boot book.legal
-      (subst (λ (p : ℕ). PassedUnder p (own (past_of H) h.agent) g.pass.boot) (ap (λ (x : Handing). x.poll) it) under) open_one.under
+      (subst (λ (p : ℕ). PassedUnder p (own (past_of H) h.agent) g.pass.boot) (ap (λ (x : Handing). x.poll) it) under) open_one.sources.under
 
   -- there is a place for the mark of the boot that it arrives at
   pub arrival_place : IfSome (arrival s.number h o (get (slice_cmp nat_cmp) agents s.agent)) (λ t. has_place marks t ≡ true)

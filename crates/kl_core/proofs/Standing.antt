@@ -43,7 +43,7 @@ due past t e says is =
     let k = some_pass e.pass (and_parts (is_some e.pass) (not e.reached) parts.1).0 in
     let passed = says.pass_is k.0 k.1 in
     record {
-      with = record { generation = e.generation; terms = t };
+      installation = record { generation = e.generation; terms = t };
       installed = says.terms_are;
       has_v = says.v_is ∙ parts.0;
       pass = passed.0;

@@ -1,6 +1,6 @@
 -- What the calls that release V, and settle what was released, answer, by the records that they found, and which record each
 -- makes.
-use Rattle.std.specs.Prelude.{◌≡◌, ◌==◌, ℕ, Bool, true, false, if◌then◌else◌, List, [], ◌∷◌, Option, Some, None, IsSome, Result, Ok, Err, ⊤}
+use Rattle.std.specs.Prelude.{◌≡◌, ◌==◌, ℕ, true, false, if◌then◌else◌, List, [], ◌∷◌, Option, Some, None, Result, Ok, Err, ⊤}
 use Rattle.kl_states.specs.declared.op.Op.{Op}
 use Rattle.kl_states.specs.declared.outcome.Outcome.{Outcome}
 use Rattle.kl_states.specs.Ops.{is_owed}
@@ -10,7 +10,7 @@ use Rattle.kl_history.specs.declared.record.Record.{Record}
 use Rattle.kl_history.specs.declared.record.Record.TheVariants.{Verdict, Release, Settled}
 use Rattle.kl_history.specs.Records.{Past, handing_of, is_unsettled, terms_of, own}
 use Rattle.kl_history.specs.LookBacks.{installed}
-use Rattle.kl_history.specs.States.{handed_for, is_current, IsOp, HasOp}
+use Rattle.kl_history.specs.States.{handed_for, is_current, HasOp}
 use Rattle.kl_history.specs.Legal.{HasRoom}
 use Rattle.kl_history.specs.Releases.{MayRelease}
 use Rattle.kl_core.specs.declared.settlement.Settlement.{Settlement}
@@ -58,13 +58,9 @@ IsOpenShare past s = (is_unsettled past s.number ≡ true) × IsGivenShare past 
 abbrev pub IsAwaited : Past → List ℕ → ℕ → Type 0
 IsAwaited past a n = (p : ℕ) × (handed_for n (own past a) ≡ Some p) × (is_unsettled past n ≡ true)
 
--- the agent is installed, in this state
-abbrev pub IsIn : Past → List ℕ → Op → Type 0
-IsIn past a op = IsSome (installed (own past a)) × IsOp (own past a) op
-
--- V is owed to the agent
+-- the agent is in a state in which V is owed
 abbrev pub IsOwed : Past → List ℕ → Type 0
-IsOwed past a = (op : Op) × IsIn past a op × (is_owed op ≡ true)
+IsOwed past a = (op : Op) × HasOp (own past a) (Some op) × (is_owed op ≡ true)
 
 -- and no release to it is awaited
 abbrev pub MayHand : Past → List ℕ → Type 0
@@ -72,7 +68,7 @@ MayHand past a = IsOwed past a × ((n : ℕ) → ¬ (IsAwaited past a n))
 
 abbrev pub RefusesRelease : Past → List ℕ → Refusal → Type 0
 RefusesRelease past a NoAgent = installed (own past a) ≡ None
-RefusesRelease past a (WrongState op) = IsIn past a op × (is_owed op ≡ false)
+RefusesRelease past a (WrongState op) = HasOp (own past a) (Some op) × (is_owed op ≡ false)
 RefusesRelease past a (Busy n) = IsOwed past a × IsAwaited past a n
 RefusesRelease past a JournalRecords = MayHand past a × (¬ (HasRoom past 2))
 RefusesRelease past a Memory = ⊤

@@ -33,6 +33,7 @@ use kl_states::{AgentId, State};
 use std::alloc::Global;
 use std::collections::BTreeMap;
 use std::marker::Model;
+use std::mem::size_of;
 
 /// The most records that a journal has, the end of each open poll and release among them.
 const MOST_RECORDS: usize = 1_000_000;
@@ -45,6 +46,9 @@ const POLL_BYTES: u64 = 16_777_216;
 
 /// The most agents that are installed.
 const MOST_AGENTS: usize = 1_024;
+
+// What a record costs, in bytes.
+const _: () = prove!(size_of::<Record>() == 184);
 
 /// A history, what it says at each moment, and the notices that it makes. Contracts see it as its records, and how many of
 /// the notices are delivered.

@@ -9,6 +9,7 @@ ghost use Rattle.kl_core.specs.Inner.Picking.{due_of};
 use kl_appraise::Boot;
 use kl_incr::{Kept, Outcome as Finding};
 use kl_states::{AgentId, Nonce, Op, Outcome, Verdict};
+use std::mem::size_of;
 
 /// With so many losses in a row an agent has failed.
 const FAILING_LOSSES: u64 = 5;
@@ -22,24 +23,25 @@ const FIRST_WAIT: u64 = 2_000;
 /// What is kept of an installed agent, since it was installed.
 #[derive(Clone, Copy)]
 pub struct Entry {
+    // What `pick` reads of every agent stands first, so that it lies close together.
+    /// Its last poll, open or not.
+    pub latest: Option<Begun>,
+    /// How many polls were lost in a row since the last finding.
+    pub losses: u64,
+    /// The state in which it is not live any more, where it is in one.
+    pub end: Option<Op>,
+    /// Whether its terms have a key share V.
+    pub has_v: bool,
+    /// Whether V has reached the boot of the pass.
+    pub reached: bool,
     /// The installed generation.
     pub generation: u64,
     /// The place of the record that installed it.
     pub place: usize,
-    /// Whether its terms have a key share V.
-    pub has_v: bool,
-    /// The state in which it is not live any more, where it is in one.
-    pub end: Option<Op>,
-    /// How many polls were lost in a row since the last finding.
-    pub losses: u64,
     /// The last finding, where that is a pass.
     pub pass: Option<Passed>,
-    /// Whether V has reached the boot of that pass.
-    pub reached: bool,
     /// How many entries of its measurement list are accepted.
     pub accepted: u64,
-    /// Its last poll, open or not.
-    pub latest: Option<Begun>,
     /// How many deliveries of V were missed in a row since the last that arrived.
     pub missed: u64,
     /// The generation with which it was added last.
@@ -107,15 +109,15 @@ impl Entry {
         ensures { result ≡ fresh generation place has_v }
     {
         Entry {
+            latest: None,
+            losses: 0,
+            end: None,
+            has_v,
+            reached: false,
             generation,
             place,
-            has_v,
-            end: None,
-            losses: 0,
             pass: None,
-            reached: false,
             accepted: 0,
-            latest: None,
             missed: 0,
             added: generation,
             handed: None,
@@ -318,3 +320,10 @@ fn accepted_by(kept: &Option<Kept>) -> u64
         None => 0,
     }
 }
+
+// What an agent, an open poll and an open release cost a map, in bytes, with their names and numbers.
+const _: () = prove!(size_of::<AgentId>() + size_of::<Entry>() == 200);
+
+const _: () = prove!(size_of::<u64>() + size_of::<Opening>() == 168);
+
+const _: () = prove!(size_of::<u64>() + size_of::<Handed>() == 120);

@@ -8,6 +8,7 @@ use kl_appraise::Boot;
 use kl_policy::Memory;
 use kl_states::AgentId;
 use std::collections::BTreeMap;
+use std::mem::size_of;
 
 /// A boot of an agent's machine, since the agent was added last.
 #[derive(Clone, Copy, Debug, PartialEq, Eq, PartialOrd, Ord)]
@@ -21,6 +22,9 @@ pub struct Target {
     /// How often it was restarted since then.
     pub restart: u32,
 }
+
+// What a boot that V reached costs a map, in bytes.
+const _: () = prove!(size_of::<Target>() == 88);
 
 impl Target {
     /// A boot of an agent that was added with this generation.

@@ -13,7 +13,7 @@ use Rattle.kl_appraise.specs.Outcome.{IsOutcome}
 use Rattle.kl_history.specs.declared.record.InstallWhy.{InstallWhy}
 use Rattle.kl_history.specs.declared.record.Record.{Record}
 use Rattle.kl_history.specs.declared.record.Record.TheVariants.{Install, Begin, Verdict, Restart}
-use Rattle.kl_history.specs.Records.{History, Past, Start, start_of, own, terms_of}
+use Rattle.kl_history.specs.Records.{History, Past, Beginning, start_of, own, terms_of}
 use Rattle.kl_history.specs.LookBacks.{Installed, installed}
 use Rattle.kl_history.specs.Accepted.{IsAccepted}
 use Rattle.kl_history.specs.States.{is_current, ended}
@@ -32,7 +32,7 @@ current_installed own g is = by_case (installed own) refl (and_parts (option_map
   by_case (Some i) same named = (i, same, eqb-true i.generation g named)
 
 -- where an appraised poll's Begin and its generation's Install stand
-record IsFounded (past : Past) (p : ℕ) (s : Start) (t : TermsFields) : Type 0 where
+record IsFounded (past : Past) (p : ℕ) (s : Beginning) (t : TermsFields) : Type 0 where
   begun_behind : Past
   begun : Stands (Begin p s.agent s.generation s.nonce s.at s.from) begun_behind past
   installed_behind : Past
@@ -46,7 +46,7 @@ one_install past b c a d g h t u w v legal s other same =
     let one = drawn_once generation_numbers g (generations_in_order past legal) s other (eq-eqb g g refl) (eq-eqb g h same) in
     let r = one.0 in cc
 
-founded : (past : Past) (p : ℕ) (s : Start) (t : TermsFields) → IsLegalPast past → start_of past p ≡ Some s → terms_of past s.generation ≡ Some t → IsFounded past p s t
+founded : (past : Past) (p : ℕ) (s : Beginning) (t : TermsFields) → IsLegalPast past → start_of past p ≡ Some s → terms_of past s.generation ≡ Some t → IsFounded past p s t
 founded past p s t legal began terms =
     let begun = begin_at past p s began in
     let row = (legal_at begun.1 legal).1 in

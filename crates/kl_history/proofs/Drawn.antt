@@ -4,7 +4,7 @@ use Rattle.std.proofs.lemmas.Bool.{false≢true, and_parts, cond-true, cond-fals
 use Rattle.std.proofs.lemmas.Option.{same_Some}
 use Rattle.kl_history.specs.declared.record.Record.{Record}
 use Rattle.kl_history.specs.declared.record.Record.TheVariants.{Install, Begin, Release}
-use Rattle.kl_history.specs.Records.{History, Past, past_of, Start, start_of, begins, closes, is_open, releases}
+use Rattle.kl_history.specs.Records.{History, Past, past_of, Beginning, start_of, begins, closes, is_open, releases}
 use Rattle.kl_history.specs.Legal.{IsLegalPast, Legal, Row, IsBusy}
 use Rattle.kl_history.specs.Laws.{StandsAt, before, AreDrawnOnce, IsInstalledAt, IsBegunAt, IsReleasedAt, NumbersAreDrawnOnce, IsDoneOnce, EndsAreOne}
 use Rattle.kl_history.proofs.Places.{stands_at, place_of, length-before}
@@ -85,10 +85,10 @@ busy_before r past a g p other busy = record {
 -- where a poll of an agent and generation begins, no other is open
 no_other : (r : Record) (past : Past) (a : List ℕ) (g p q : ℕ) → Row past r → begins p r ≡ true → IsBusy (r ∷ past) a g p → ¬ (IsBusy past a g q)
 no_other (Begin m b h n at from) past a g p q row is busy = λ also.
-    let s : Start = record { agent = b; generation = h; nonce = n; at = at; from = from } in
+    let s : Beginning = record { agent = b; generation = h; nonce = n; at = at; from = from } in
     let same : s ≡ busy.started = same_Some s busy.started (sym (cond-true (eqb p m) (Some s) (start_of past p) is) ∙ busy.began) in
-    let agent : b ≡ a = ap (λ (x : Start). x.agent) same ∙ busy.agent in
-    let generation : h ≡ g = ap (λ (x : Start). x.generation) same ∙ busy.generation in
+    let agent : b ≡ a = ap (λ (x : Beginning). x.agent) same ∙ busy.agent in
+    let generation : h ≡ g = ap (λ (x : Beginning). x.generation) same ∙ busy.generation in
     row.2 q (subst (λ x. IsBusy past x h q) (sym agent) (subst (λ y. IsBusy past a y q) (sym generation) also))
 no_other _ past a g p q row is busy = absurd (false≢true is)
 

@@ -21,7 +21,7 @@ use Rattle.kl_appraise.specs.QuoteRules.{IsUnasked}
 use Rattle.kl_appraise.specs.ListRules.{check_of}
 use Rattle.kl_appraise.specs.Outcome.{IsVerdict}
 use Rattle.kl_history.specs.declared.record.Record.TheVariants.{Dropped, Release, Settled, Stop, Remove}
-use Rattle.kl_history.specs.Records.{History, Past, past_of, Start, start_of, Handing, handing_of, handings, is_unsettled, is_open, terms_of, own}
+use Rattle.kl_history.specs.Records.{History, Past, past_of, Beginning, start_of, Handing, handing_of, releases_made, is_unsettled, is_open, terms_of, own}
 use Rattle.kl_history.specs.LookBacks.{Installed, installed, losses, missed, Passing, last_pass}
 use Rattle.kl_history.specs.Accepted.{no_boot, SignsBoot, HasAccepted, WasAccepted}
 use Rattle.kl_history.specs.States.{ended, is_current, handed_for, HasReached, IsDue, IsLiveOp, IsOp}
@@ -38,10 +38,10 @@ not_due own none = λ due. none-some due.pass (sym none ∙ due.passed)
 
 due_by : (own : Past) (i : Installed) (pass : Passing) → installed own ≡ Some i → IsSome i.terms.v → last_pass own ≡ Some pass
     → ((boot : Boot) → SignsBoot pass.evidence boot → ¬ (HasReached own boot)) → IsDue own
-due_by own i pass inst has_v passes unreached = record { with = i; installed = inst; has_v = has_v; pass = pass; passed = passes; unreached = unreached }
+due_by own i pass inst has_v passes unreached = record { installation = i; installed = inst; has_v = has_v; pass = pass; passed = passes; unreached = unreached }
 
 -- the release rule is met by the agent of these histories
-may_release : (past : Past) (n : ℕ) (i : Installed) (p : Passing) (o : Op) → n ≡ handings past + 1 → IsDue (own past a1) → installed (own past a1) ≡ Some i → last_pass (own past a1) ≡ Some p
+may_release : (past : Past) (n : ℕ) (i : Installed) (p : Passing) (o : Op) → n ≡ releases_made past + 1 → IsDue (own past a1) → installed (own past a1) ≡ Some i → last_pass (own past a1) ≡ Some p
     → IsOp (own past a1) o → is_owed o ≡ true → ((m q : ℕ) → handed_for m (own past a1) ≡ Some q → is_unsettled past m ≡ false) → MayRelease past n a1 i.generation p.poll
 may_release past n i p o next due inst passes state owed alone = record {
   next = next;
@@ -49,7 +49,7 @@ may_release past n i p o next due inst passes state owed alone = record {
   op = o;
   state = state;
   owed = owed;
-  named = ap (λ (x : Installed). x.generation) (same_Some i due.with (sym inst ∙ due.installed));
+  named = ap (λ (x : Installed). x.generation) (same_Some i due.installation (sym inst ∙ due.installed));
   stands = ap (λ (x : Passing). x.poll) (same_Some p due.pass (sym passes ∙ due.passed));
   alone = alone;
 }
@@ -70,10 +70,10 @@ not_begun : (H : History) (o : Op) → ended (own_of H) ≡ Some o → IsNotBegu
 not_begun H o over p g n at from = λ row.
     false≢true (sym (and_right (option_map_or (λ (i : Installed). eqb i.generation g) (installed (own_of H)) false) (is_none (ended (own_of H))) (ap is_none over)) ∙ row.1)
 
-closes_row : (past : Past) (p : ℕ) (s : Start) (now : Bool) → start_of past p ≡ Some s → is_open past p ≡ true → now ≡ is_current (own past s.agent) s.generation → MayClose past p now
+closes_row : (past : Past) (p : ℕ) (s : Beginning) (now : Bool) → start_of past p ≡ Some s → is_open past p ≡ true → now ≡ is_current (own past s.agent) s.generation → MayClose past p now
 closes_row past p s now began unclosed current = record { started = s; began = began; unclosed = unclosed; current = current }
 
-closes_as : (H : History) (p : ℕ) (s : Start) (now : Bool) → start_of (past_of H) p ≡ Some s → is_open (past_of H) p ≡ true → now ≡ is_current (own (past_of H) s.agent) s.generation → ClosesAs H p now
+closes_as : (H : History) (p : ℕ) (s : Beginning) (now : Bool) → start_of (past_of H) p ≡ Some s → is_open (past_of H) p ≡ true → now ≡ is_current (own (past_of H) s.agent) s.generation → ClosesAs H p now
 closes_as H p s now began unclosed current = record {
   may_lose = λ why. closes_row (past_of H) p s now began unclosed current;
   loses = λ why c may. marked c may;
@@ -82,10 +82,10 @@ closes_as H p s now began unclosed current = record {
 }
   where
     marked : (c : Bool) → MayClose (past_of H) p c → c ≡ now
-    marked c may = may.current ∙ ap (λ (z : Start). is_current (own (past_of H) z.agent) z.generation) (same_Some may.started s (sym may.began ∙ began)) ∙ sym current
+    marked c may = may.current ∙ ap (λ (z : Beginning). is_current (own (past_of H) z.agent) z.generation) (same_Some may.started s (sym may.began ∙ began)) ∙ sym current
 
 -- the row of a verdict, behind what was accepted when its poll began
-verdict_row : (past : Past) (p : ℕ) (s : Start) (t : TermsFields) (r : Reply) (v : AnyVerdict) (now : Bool) (entries : List EntryFields) (boot : Boot) → start_of past p ≡ Some s → is_open past p ≡ true
+verdict_row : (past : Past) (p : ℕ) (s : Beginning) (t : TermsFields) (r : Reply) (v : AnyVerdict) (now : Bool) (entries : List EntryFields) (boot : Boot) → start_of past p ≡ Some s → is_open past p ≡ true
     → now ≡ is_current (own past s.agent) s.generation → terms_of past s.generation ≡ Some t → s.from ≡ 0 → WasAccepted p (own past s.agent) entries boot
     → IsVerdict (record { terms = t; nonce = s.nonce; from = 0; prefix = entries; boot = boot; evidence = r.evidence; signed = r.signed }) v
     → (IsUnasked (check_of (record { terms = t; nonce = s.nonce; from = 0; prefix = entries; boot = boot; evidence = r.evidence; signed = r.signed })) → r.signed ≡ false)
@@ -111,7 +111,7 @@ verdict_row past p s t r v now entries boot began unclosed current terms from wa
 )
 
 -- and of one on a whole list, where nothing was
-found_row : (past : Past) (p : ℕ) (s : Start) (t : TermsFields) (r : Reply) (v : AnyVerdict) (now : Bool) → start_of past p ≡ Some s → is_open past p ≡ true
+found_row : (past : Past) (p : ℕ) (s : Beginning) (t : TermsFields) (r : Reply) (v : AnyVerdict) (now : Bool) → start_of past p ≡ Some s → is_open past p ≡ true
     → now ≡ is_current (own past s.agent) s.generation → terms_of past s.generation ≡ Some t → s.from ≡ 0 → WasAccepted p (own past s.agent) [] no_boot → IsFound t s.nonce r v
     → Row past (verdict p r v now)
 found_row past p s t r v now began unclosed current terms from was found =
@@ -148,7 +148,7 @@ passed_accepts x r es boot are signs =
     ([], no_boot, (refl, refl), record { whole = es; continues = (es, are, ap (λ l. l ++ es) (sym (take-nil r.evidence.start))); front = refl; signs = signs })
 
 pub pass_without_share : (t : TermsFields) (nonce : List ℕ) (at : ℕ) (r : Reply) → PassWithoutShare t nonce at r
-pass_without_share t nonce at r none = (refl, inr (refl, (λ due. false≢true (ap (λ v. is_some v) (sym none) ∙ ap (λ (i : Installed). is_some i.terms.v) (same_Some _ due.with due.installed) ∙ due.has_v), refl, refl)))
+pass_without_share t nonce at r none = (refl, inr (refl, (λ due. false≢true (ap (λ v. is_some v) (sym none) ∙ ap (λ (i : Installed). is_some i.terms.v) (same_Some _ due.installation due.installed) ∙ due.has_v), refl, refl)))
 
 pub first_pass : (x : Given) (r : Reply) → IsFound x.terms (x.nonce 1) r (Pass 2) → FirstPass x r
 first_pass x r found = record {
@@ -170,7 +170,7 @@ first_pass x r found = record {
     lost_due = due_by (own_of (passed x r ++ begun x 2 1 ∷ lost_poll 2 ∷ [])) _ _ refl x.has_v refl (λ boot _ none. none)
 
     -- the first release
-    release_row : (past : Past) → handings past ≡ 0 → installed (own past a1) ≡ Some (record { generation = 1; terms = x.terms }) → last_pass (own past a1) ≡ Some (record { poll = 1; evidence = r.evidence })
+    release_row : (past : Past) → releases_made past ≡ 0 → installed (own past a1) ≡ Some (record { generation = 1; terms = x.terms }) → last_pass (own past a1) ≡ Some (record { poll = 1; evidence = r.evidence })
         → IsDue (own past a1) → ended (own past a1) ≡ None → missed (own past a1) ≡ 0 → ((n p : ℕ) → ¬ (handed_for n (own past a1) ≡ Some p)) → Row past (Release 1 a1 1 1)
     release_row past none inst passes due live late alone =
         may_release past 1 _ _ op.ProvideV (ap (λ n. n + 1) (sym none)) due inst passes (inr (live, (due, late))) refl (λ n p handed. absurd (alone _ p handed))
@@ -266,7 +266,7 @@ added_once_more x r found =
 -- ---- five losses
 
 -- a poll begins, and is lost
-lost_rows : (x : Given) (past : Past) (p : ℕ) (s : Start) → AreRows past → Row past (begun x p 1) → start_of (begun x p 1 ∷ past) p ≡ Some s → is_open (begun x p 1 ∷ past) p ≡ true
+lost_rows : (x : Given) (past : Past) (p : ℕ) (s : Beginning) → AreRows past → Row past (begun x p 1) → start_of (begun x p 1 ∷ past) p ≡ Some s → is_open (begun x p 1 ∷ past) p ≡ true
     → true ≡ is_current (own (begun x p 1 ∷ past) s.agent) s.generation → AreRows (lost_poll p ∷ begun x p 1 ∷ past)
 lost_rows x past p s rows begin began unclosed current = ((rows, begin), closes_row (begun x p 1 ∷ past) p s true began unclosed current)
 
@@ -375,7 +375,7 @@ missed_rows : (past : Past) (n : ℕ) (h : Handing) → AreRows past → Row pas
 missed_rows past n h rows release made unsettled current = ((rows, release), record { handing = h; released = made; unsettled = unsettled; current = current })
 
 -- a release after deliveries that were missed: V is due, and none of the releases before it is open
-again_row : (x : Given) (r : Reply) (past : Past) (n k : ℕ) → n ≡ handings past + 1 → installed (own past a1) ≡ Some (record { generation = 1; terms = x.terms }) → last_pass (own past a1) ≡ Some (record { poll = 1; evidence = r.evidence })
+again_row : (x : Given) (r : Reply) (past : Past) (n k : ℕ) → n ≡ releases_made past + 1 → installed (own past a1) ≡ Some (record { generation = 1; terms = x.terms }) → last_pass (own past a1) ≡ Some (record { poll = 1; evidence = r.evidence })
     → ended (own past a1) ≡ None → missed (own past a1) ≡ suc k → ((boot : Boot) → ¬ (HasReached (own past a1) boot)) → ((m : ℕ) → is_unsettled past m ≡ false)
     → Row past (Release n a1 1 1)
 again_row x r past n k next inst passes live some unreached alone =

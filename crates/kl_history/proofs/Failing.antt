@@ -14,10 +14,10 @@ use Rattle.kl_notice.specs.declared.notice.FailWhy.{FailWhy}
 use Rattle.kl_notice.specs.declared.notice.FailWhy.TheVariants as failed_by
 use Rattle.kl_history.specs.declared.record.Record.{Record}
 use Rattle.kl_history.specs.declared.record.Record.TheVariants.{Install, Verdict, Restart, Lost, Settled, Stop}
-use Rattle.kl_history.specs.Records.{History, Past, past_of, Start, Handing, is_release_of, belongs, own}
+use Rattle.kl_history.specs.Records.{History, Past, past_of, Beginning, Handing, is_release_of, belongs, own}
 use Rattle.kl_history.specs.LookBacks.{Installed, installed, came, losses, missed}
 use Rattle.kl_history.specs.States.{ended, is_stop, is_invalid, is_failed, is_live}
-use Rattle.kl_history.specs.Notices.{Failure, blames, has_failed, downfall, failure, told_by, with_failure, notices_of, notices}
+use Rattle.kl_history.specs.Notices.{Failure, agent_and_reason, has_failed, downfall, failure, told_by, with_failure, notices_of, notices}
 use Rattle.kl_history.specs.Laws.{before, counts_for_nothing, failure_at, BringsDown, is_current_end, TellFailures}
 use Rattle.kl_history.proofs.Places.{some_within, before_next}
 use Rattle.kl_history.proofs.OwnRecords.{poll_begun, release_made, own-yes, own-no}
@@ -55,7 +55,7 @@ failed_parts a why old new f is = by_case (is_live old && has_failed (ended new)
   by_case false both same = absurd (none-some f same)
 
 failure_down : (past : Past) (r : Record) (f : Failure) → failure past r ≡ Some f → BringsDown past r f.agent
-failure_down past r f is = by_case (blames past r) is where
+failure_down past r f is = by_case (agent_and_reason past r) is where
   by_case : (o : Option (List ℕ × FailWhy)) → elim o [ None ↦ None | Some b ↦ downfall b.0 b.1 (own past b.0) (own (r ∷ past) b.0) ] ≡ Some f → BringsDown past r f.agent
   by_case None same = absurd (none-some f same)
   by_case (Some b) same =
@@ -97,14 +97,14 @@ none_ended false false false false false is = refl
 
 -- the reason that a record which brings an agent down gives
 down_why : (r : Record) (past : Past) (a : List ℕ) → belongs past a r ≡ true → ended (own past a) ≡ None → has_failed (ended (r ∷ own past a)) ≡ true
-    → (w : FailWhy) × (blames past r ≡ Some (a, w)) × (installed (r ∷ own past a) ≡ installed (own past a))
+    → (w : FailWhy) × (agent_and_reason past r ≡ Some (a, w)) × (installed (r ∷ own past a) ≡ installed (own past a))
 down_why (Install b g t w) past a is none failed = absurd (false≢true failed)
 down_why (Verdict p e s v c) past a is none failed =
     let begun = poll_begun past a p is in
-    (failed_by.Verdict v, ap (option_map (λ (b : Start). (b.agent, failed_by.Verdict v))) begun.1 ∙ ap (λ x. Some (x, failed_by.Verdict v)) begun.2, refl)
+    (failed_by.Verdict v, ap (option_map (λ (b : Beginning). (b.agent, failed_by.Verdict v))) begun.1 ∙ ap (λ x. Some (x, failed_by.Verdict v)) begun.2, refl)
 down_why (Lost p w c) past a is none failed =
     let begun = poll_begun past a p is in
-    (failed_by.Losses, ap (option_map (λ (b : Start). (b.agent, failed_by.Losses))) begun.1 ∙ ap (λ x. Some (x, failed_by.Losses)) begun.2, refl)
+    (failed_by.Losses, ap (option_map (λ (b : Beginning). (b.agent, failed_by.Losses))) begun.1 ∙ ap (λ x. Some (x, failed_by.Losses)) begun.2, refl)
 down_why (Settled n o c) past a is none failed =
     let made = release_made past a n is in
     (failed_by.Undelivered, ap (option_map (λ (h : Handing). (h.agent, failed_by.Undelivered))) made.1 ∙ ap (λ x. Some (x, failed_by.Undelivered)) made.2, refl)
@@ -133,7 +133,7 @@ down_failure past r a down = elim (cases_Bool (belongs past a r)) [
   | inr other ↦ absurd (not_down past r a (ap ended (own-no r past a other)) down)
 ]
   where
-    by_why : (w : FailWhy) → blames past r ≡ Some (a, w) → failure past r ≡ downfall a w (own past a) (own (r ∷ past) a)
+    by_why : (w : FailWhy) → agent_and_reason past r ≡ Some (a, w) → failure past r ≡ downfall a w (own past a) (own (r ∷ past) a)
     by_why w same = ap (λ (o : Option (List ℕ × FailWhy)). elim o [ None ↦ None | Some b ↦ downfall b.0 b.1 (own past b.0) (own (r ∷ past) b.0) ]) same
 
 -- ---- the notices

@@ -11,7 +11,7 @@ use Rattle.kl_appraise.specs.Terms.{TermsFields}
 use Rattle.kl_history.specs.declared.record.InstallWhy.{InstallWhy}
 use Rattle.kl_history.specs.declared.record.Record.{Record}
 use Rattle.kl_history.specs.declared.record.Record.TheVariants.{Install, Begin, Remove}
-use Rattle.kl_history.specs.Records.{Past, Start, start_of, Handing, handing_of, begins, terms_of, is_poll_of, is_release_of, belongs, own}
+use Rattle.kl_history.specs.Records.{Past, Beginning, start_of, Handing, handing_of, begins, terms_of, is_poll_of, is_release_of, belongs, own}
 use Rattle.kl_history.specs.LookBacks.{Installed, installed}
 use Rattle.kl_history.specs.Accepted.{HasAccepted, IsAccepted, WasAccepted}
 use Rattle.kl_history.specs.Legal.{IsLegalPast}
@@ -26,9 +26,9 @@ pub bytes_eq-refl : (a : List ℕ) → bytes_eq a a ≡ true
 bytes_eq-refl a = (bytes_eq-Decides a a).1 refl
 
 -- the Begin of a poll that is the agent's, and the Release of such a release
-pub poll_begun : (past : Past) (a : List ℕ) (p : ℕ) → is_poll_of past a p ≡ true → (s : Start) × (start_of past p ≡ Some s) × (s.agent ≡ a)
+pub poll_begun : (past : Past) (a : List ℕ) (p : ℕ) → is_poll_of past a p ≡ true → (s : Beginning) × (start_of past p ≡ Some s) × (s.agent ≡ a)
 poll_begun past a p is = by_case (start_of past p) refl is where
-  by_case : (o : Option Start) → start_of past p ≡ o → option_map_or (λ (s : Start). bytes_eq a s.agent) o false ≡ true → (s : Start) × (start_of past p ≡ Some s) × (s.agent ≡ a)
+  by_case : (o : Option Beginning) → start_of past p ≡ o → option_map_or (λ (s : Beginning). bytes_eq a s.agent) o false ≡ true → (s : Beginning) × (start_of past p ≡ Some s) × (s.agent ≡ a)
   by_case None same is = absurd (false≢true is)
   by_case (Some s) same is = (s, same, sym (same_bytes a s.agent is))
 
@@ -75,7 +75,7 @@ own_in {x} {b} a (earlier {newer = r} {past = past} s) is =
 
 -- ---- where what is found stands
 
-pub begin_at : (past : Past) (p : ℕ) (s : Start) → start_of past p ≡ Some s → (b : Past) × Stands (Begin p s.agent s.generation s.nonce s.at s.from) b past
+pub begin_at : (past : Past) (p : ℕ) (s : Beginning) → start_of past p ≡ Some s → (b : Past) × Stands (Begin p s.agent s.generation s.nonce s.at s.from) b past
 begin_at [] p s is = absurd (none-some s is)
 begin_at (Begin q a g n at from ∷ past) p s is = by_case (eqb p q) refl is (begin_at past p s) where
   by_case : (t : Bool) → eqb p q ≡ t → cond t (Some (record { agent = a; generation = g; nonce = n; at = at; from = from })) (start_of past p) ≡ Some s
@@ -84,7 +84,7 @@ begin_at (Begin q a g n at from ∷ past) p s is = by_case (eqb p q) refl is (be
   by_case true same found further =
       let named : Begin q a g n at from ≡ Begin p s.agent s.generation s.nonce s.at s.from =
       ap (λ m. Begin m a g n at from) (sym (eqb-true p q same))
-      ∙ ap (λ (x : Start). Begin p x.agent x.generation x.nonce x.at x.from) (same_Some _ s found) in
+      ∙ ap (λ (x : Beginning). Begin p x.agent x.generation x.nonce x.at x.from) (same_Some _ s found) in
       (past, subst (λ x. Stands x past (Begin q a g n at from ∷ past)) named here)
   by_case false other found further = let rest = further found in (rest.0, earlier rest.1)
 begin_at (_ ∷ past) p s is = let rest = begin_at past p s is in (rest.0, earlier rest.1)

@@ -10,7 +10,7 @@ use Rattle.kl_states.specs.declared.verdict.Verdict.TheVariants.{Pass, Failed, I
 use Rattle.kl_states.specs.Ops.{is_owed}
 use Rattle.kl_history.specs.declared.record.Record.{Record}
 use Rattle.kl_history.specs.declared.record.Record.TheVariants.{Install, Begin, Verdict, Restart, Release, Remove}
-use Rattle.kl_history.specs.Records.{History, Past, Start, is_poll_of, belongs, own}
+use Rattle.kl_history.specs.Records.{History, Past, Beginning, is_poll_of, belongs, own}
 use Rattle.kl_history.specs.LookBacks.{Installed, installed, came, losses, missed, Passing, last_pass}
 use Rattle.kl_history.specs.States.{is_current, ended, is_stop, is_invalid, is_failed, IsOp}
 use Rattle.kl_history.specs.Legal.{Legal, MayClose}
@@ -109,7 +109,7 @@ record PassBegun (v : Past) (a : List ℕ) (p g : ℕ) : Type 0 where
 pass_begun : (v : Past) (a : List ℕ) (p : ℕ) (i : Installed) → installed (own v a) ≡ Some i → MayClose v p true → is_poll_of v a p ≡ true → PassBegun v a p i.generation
 pass_begun v a p i inst close is =
     let own_begin = poll_begun v a p is in
-    let agent : close.started.agent ≡ a = ap (λ (x : Start). x.agent) (same_Some close.started own_begin.0 (sym close.began ∙ own_begin.1)) ∙ own_begin.2 in
+    let agent : close.started.agent ≡ a = ap (λ (x : Beginning). x.agent) (same_Some close.started own_begin.0 (sym close.began ∙ own_begin.1)) ∙ own_begin.2 in
     let then_current : is_current (own v a) close.started.generation ≡ true = subst (λ x. is_current (own v x) close.started.generation ≡ true) agent (sym close.current) in
     let now = current_installed (own v a) close.started.generation then_current in
     let generation : close.started.generation ≡ i.generation = sym now.2 ∙ ap (λ (x : Installed). x.generation) (same_Some now.0 i (sym now.1 ∙ inst)) in
@@ -156,6 +156,6 @@ passed_at H i a r pass inst legal at installed_now live stands =
 pub released_on_passes : (H : History) → Legal H → AreReleasedOnPasses H
 released_on_passes H legal i n a g p at =
     let row = (legal_at (stands_at H i (Release n a g p) at) legal).1 in
-    let stands = pass_stands (before H i) a row.due.pass row.due.with row.due.passed row.due.installed in
+    let stands = pass_stands (before H i) a row.due.pass row.due.installation row.due.passed row.due.installed in
     subst₂ (IsPassed H i a) (sym row.named) (sym row.stands)
-    (passed_at H i a (Release n a g p) row.due.pass row.due.with legal at row.due.installed (owed_live (own (before H i) a) row.op row.state row.owed) stands)
+    (passed_at H i a (Release n a g p) row.due.pass row.due.installation legal at row.due.installed (owed_live (own (before H i) a) row.op row.state row.owed) stands)

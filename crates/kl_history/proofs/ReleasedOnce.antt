@@ -135,7 +135,7 @@ is_signed : (H : History) (i n : ℕ) (a : List ℕ) (g p : ℕ) (boot : Boot) �
 is_signed H i n a g p boot legal at (k, e, s, cut, c, passed, signs) =
     let release = stands_at H i (Release n a g p) at in
     let row = (legal_at release legal).1 in
-    let found = pass_stands (before H i) a row.due.pass row.due.with row.due.passed row.due.installed in
+    let found = pass_stands (before H i) a row.due.pass row.due.installation row.due.passed row.due.installed in
     let stands : Stands (Verdict p row.due.pass.evidence found.signed (Pass found.cut) true) found.behind (before H i) =
     subst (λ x. Stands (Verdict x row.due.pass.evidence found.signed (Pass found.cut) true) found.behind (before H i)) (sym row.stands) found.stands in
     let there = stands_at H k (Verdict p e s (Pass cut) c) passed in

@@ -7,7 +7,7 @@ use Rattle.std.proofs.lemmas.Bool.{false≢true, and_from, and_parts, or_left, o
 use Rattle.std.proofs.lemmas.Option.{none-some}
 use Rattle.std.proofs.lemmas.List.Sums.{sum_by-cons, count_by-le-length}
 use Rattle.kl_history.specs.declared.record.Record.TheVariants.{Begin, Release, Settled}
-use Rattle.kl_history.specs.Records.{Past, Start, start_of, is_begin, is_release, is_open, is_unsettled}
+use Rattle.kl_history.specs.Records.{Past, Beginning, start_of, is_begin, is_release, is_open, is_unsettled}
 use Rattle.kl_history.specs.Legal.{IsLegalPast, Row, IsBusy, weight_of, Fits}
 use Rattle.kl_history.proofs.OwnRecords.{bytes_eq-refl}
 
@@ -49,9 +49,9 @@ begun (_ ∷ past) = begun past
 
 -- the poll is open, of this agent and generation
 abbrev is_busy : Past → List ℕ → ℕ → ℕ → Bool
-is_busy past a g p = is_open past p && option_map_or (λ (s : Start). bytes_eq s.agent a && eqb s.generation g) (start_of past p) false
+is_busy past a g p = is_open past p && option_map_or (λ (s : Beginning). bytes_eq s.agent a && eqb s.generation g) (start_of past p) false
 
-has_begun : (past : Past) (p : ℕ) (s : Start) → start_of past p ≡ Some s → list_any (eqb p) (begun past) ≡ true
+has_begun : (past : Past) (p : ℕ) (s : Beginning) → start_of past p ≡ Some s → list_any (eqb p) (begun past) ≡ true
 has_begun [] p s is = absurd (none-some s is)
 has_begun (Begin q a g n at from ∷ past) p s is = by_case (eqb p q) is (has_begun past p s) where
   by_case : (t : Bool) → cond t (Some (record { agent = a; generation = g; nonce = n; at = at; from = from })) (start_of past p) ≡ Some s
@@ -70,8 +70,8 @@ any_at test (m ∷ ns) n among is = by_case (eqb n m) refl among (any_at test ns
 -- where a look at each poll that began finds none open, none is
 pub idle : (past : Past) (a : List ℕ) (g : ℕ) → list_any (is_busy past a g) (begun past) ≡ false → (q : ℕ) → ¬ (IsBusy past a g q)
 idle past a g none q = λ busy.
-    let named : option_map_or (λ (s : Start). bytes_eq s.agent a && eqb s.generation g) (start_of past q) false ≡ true =
-    ap (λ o. option_map_or (λ (s : Start). bytes_eq s.agent a && eqb s.generation g) o false) busy.began
+    let named : option_map_or (λ (s : Beginning). bytes_eq s.agent a && eqb s.generation g) (start_of past q) false ≡ true =
+    ap (λ o. option_map_or (λ (s : Beginning). bytes_eq s.agent a && eqb s.generation g) o false) busy.began
     ∙ and_from (bytes_eq busy.started.agent a) (eqb busy.started.generation g) (ap (λ x. bytes_eq x a) busy.agent ∙ bytes_eq-refl a) (eq-eqb busy.started.generation g busy.generation) in
     false≢true (sym none ∙ any_at (is_busy past a g) (begun past) q (has_begun past q busy.started busy.began) (and_from (is_open past q) _ busy.unclosed named))
 

@@ -77,7 +77,7 @@ state_same old new kept down up o = (op_same old new kept down up o, op_same new
 -- what is due stays due where V reached no boot more
 due_same : (old new : Past) → AreKept old new → ((p : Passing) (boot : Boot) → last_pass old ≡ Some p → SignsBoot p.evidence boot → HasReached new boot → HasReached old boot) → IsDue old → IsDue new
 due_same old new kept reaches due = record {
-  with = due.with;
+  installation = due.installation;
   installed = kept.terms ∙ due.installed;
   has_v = due.has_v;
   pass = due.pass;

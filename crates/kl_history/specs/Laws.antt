@@ -21,7 +21,7 @@ use Rattle.kl_history.specs.declared.record.InstallWhy.{InstallWhy}
 use Rattle.kl_history.specs.declared.record.InstallWhy.TheVariants.{Add}
 use Rattle.kl_history.specs.declared.record.Record.{Record}
 use Rattle.kl_history.specs.declared.record.Record.TheVariants.{Install, Begin, Verdict, Restart, Lost, Dropped, Release, Settled, Remove}
-use Rattle.kl_history.specs.Records.{History, Past, past_of, is_open, is_unsettled, open_polls, open_releases, closes, settles, is_begin, is_release_of, belongs, own, generations, polls, handings}
+use Rattle.kl_history.specs.Records.{History, Past, past_of, is_open, is_unsettled, open_polls, open_releases, closes, settles, is_begin, is_release_of, belongs, own, generations, polls, releases_made}
 use Rattle.kl_history.specs.LookBacks.{installed, came, losses, missed, Passing, last_pass}
 use Rattle.kl_history.specs.Accepted.{IsNothing, SignsBoot, IsAccepted}
 use Rattle.kl_history.specs.States.{is_current, is_live, ended, handed_for, PassedUnder, HasReached, IsDue, HasOp}
@@ -61,7 +61,7 @@ IsReleasedAt H n i = (a : List ℕ) × (g : ℕ) × (p : ℕ) × StandsAt H i (R
 pub record NumbersAreDrawnOnce (H : History) : Type 0 where
   pub installs : AreDrawnOnce (generations (past_of H)) (IsInstalledAt H)
   pub begins : AreDrawnOnce (polls (past_of H)) (IsBegunAt H)
-  pub releases : AreDrawnOnce (handings (past_of H)) (IsReleasedAt H)
+  pub releases : AreDrawnOnce (releases_made (past_of H)) (IsReleasedAt H)
 
 -- ---- Ends
 

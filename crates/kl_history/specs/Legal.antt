@@ -13,7 +13,7 @@ use Rattle.kl_history.specs.declared.record.InstallWhy.{InstallWhy}
 use Rattle.kl_history.specs.declared.record.InstallWhy.TheVariants.{Add, Replace, Reactivate}
 use Rattle.kl_history.specs.declared.record.Record.{Record}
 use Rattle.kl_history.specs.declared.record.Record.TheVariants.{Install, Begin, Verdict, Restart, Lost, Dropped, Release, Settled, Stop, Remove}
-use Rattle.kl_history.specs.Records.{History, Past, past_of, Start, start_of, is_open, Handing, handing_of, is_unsettled, terms_of, own, generations, polls, open_polls, open_releases}
+use Rattle.kl_history.specs.Records.{History, Past, past_of, Beginning, start_of, is_open, Handing, handing_of, is_unsettled, terms_of, own, generations, polls, open_polls, open_releases}
 use Rattle.kl_history.specs.LookBacks.{Installed, installed}
 use Rattle.kl_history.specs.Accepted.{WasAccepted}
 use Rattle.kl_history.specs.States.{is_current, is_live}
@@ -34,21 +34,21 @@ abbrev pub agents : Past → ℕ
 agents past = count_by is_add past - count_by is_remove past
 
 -- the terms are equal but for the policy
-abbrev pub DifferInPolicy : TermsFields → TermsFields → Type 0
-DifferInPolicy old new = new ≡ record old { policy = new.policy }
+abbrev pub AgreeButForPolicy : TermsFields → TermsFields → Type 0
+AgreeButForPolicy old new = new ≡ record old { policy = new.policy }
 
 -- An Add is of an agent that is not installed, where fewer than 1,024 are; a Replace changes the policy alone, and a
 -- Reactivate nothing.
 abbrev pub MayInstall : Past → List ℕ → TermsFields → InstallWhy → Type 0
 MayInstall past a t Add = (installed (own past a) ≡ None) × (agents past < 1024)
-MayInstall past a t Replace = (i : Installed) × (installed (own past a) ≡ Some i) × DifferInPolicy i.terms t
+MayInstall past a t Replace = (i : Installed) × (installed (own past a) ≡ Some i) × AgreeButForPolicy i.terms t
 MayInstall past a t Reactivate = (i : Installed) × (installed (own past a) ≡ Some i) × (t ≡ i.terms)
 
 -- ---- Polls
 
 -- this poll is the agent's, of this generation, and open
 pub record IsBusy (past : Past) (a : List ℕ) (g p : ℕ) : Type 0 where
-  pub started : Start
+  pub started : Beginning
   pub began : start_of past p ≡ Some started
   pub agent : started.agent ≡ a
   pub generation : started.generation ≡ g
@@ -57,7 +57,7 @@ pub record IsBusy (past : Past) (a : List ℕ) (g p : ℕ) : Type 0 where
 -- what a reply to an open poll is appraised as: the terms of the generation that its Begin named, its nonce, and what was
 -- accepted of its agent when it began
 pub record IsCaseOf (past : Past) (p : ℕ) (e : Evidence) (yes : Bool) (c : Case) : Type 0 where
-  pub started : Start
+  pub started : Beginning
   pub began : start_of past p ≡ Some started
   pub unclosed : is_open past p ≡ true
   pub terms : terms_of past started.generation ≡ Some c.terms
@@ -69,14 +69,16 @@ pub record IsCaseOf (past : Past) (p : ℕ) (e : Evidence) (yes : Bool) (c : Cas
   -- where one of rules 1 to 3 decides, the key object is not asked
   pub unasked : IsUnasked (check_of c) → yes ≡ false
 
--- the poll is open, and its Begin names a generation that is installed now, where the record says current
+-- the poll is open; the record says current just where its agent is installed with the generation that its Begin names, and
+-- is live
 pub record MayClose (past : Past) (p : ℕ) (now : Bool) : Type 0 where
-  pub started : Start
+  pub started : Beginning
   pub began : start_of past p ≡ Some started
   pub unclosed : is_open past p ≡ true
   pub current : now ≡ is_current (own past started.agent) started.generation
 
--- the release is open; current as of a poll
+-- the release is open; the record says current just where its agent is installed with the generation that it was made for, and
+-- is live
 pub record MaySettle (past : Past) (n : ℕ) (now : Bool) : Type 0 where
   pub handing : Handing
   pub released : handing_of past n ≡ Some handing

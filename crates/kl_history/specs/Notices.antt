@@ -8,7 +8,7 @@ use Rattle.kl_notice.specs.declared.notice.FailWhy.{FailWhy}
 use Rattle.kl_notice.specs.declared.notice.FailWhy.TheVariants as failed_by
 use Rattle.kl_history.specs.declared.record.Record.{Record}
 use Rattle.kl_history.specs.declared.record.Record.TheVariants as record_of
-use Rattle.kl_history.specs.Records.{History, Past, past_of, Start, start_of, Handing, handing_of, own}
+use Rattle.kl_history.specs.Records.{History, Past, past_of, Beginning, start_of, Handing, handing_of, own}
 use Rattle.kl_history.specs.LookBacks.{Installed, installed}
 use Rattle.kl_history.specs.States.{ended, is_live}
 
@@ -19,11 +19,11 @@ pub record Failure : Type 0 where
   pub why : FailWhy
 
 -- the reason that a record can give for a failure, and the agent that it belongs to
-abbrev pub blames : Past → Record → Option (List ℕ × FailWhy)
-blames earlier (record_of.Verdict p e s v c) = option_map (λ (b : Start). (b.agent, failed_by.Verdict v)) (start_of earlier p)
-blames earlier (record_of.Lost p w c) = option_map (λ (b : Start). (b.agent, failed_by.Losses)) (start_of earlier p)
-blames earlier (record_of.Settled n o c) = option_map (λ (h : Handing). (h.agent, failed_by.Undelivered)) (handing_of earlier n)
-blames earlier _ = None
+abbrev pub agent_and_reason : Past → Record → Option (List ℕ × FailWhy)
+agent_and_reason earlier (record_of.Verdict p e s v c) = option_map (λ (b : Beginning). (b.agent, failed_by.Verdict v)) (start_of earlier p)
+agent_and_reason earlier (record_of.Lost p w c) = option_map (λ (b : Beginning). (b.agent, failed_by.Losses)) (start_of earlier p)
+agent_and_reason earlier (record_of.Settled n o c) = option_map (λ (h : Handing). (h.agent, failed_by.Undelivered)) (handing_of earlier n)
+agent_and_reason earlier _ = None
 
 -- the state is one of those in which an agent has failed
 abbrev pub has_failed : Option Op → Bool
@@ -40,7 +40,7 @@ downfall a why before after =
 
 -- the failure that a record brings, where it brings a live agent to a state in which it has failed
 abbrev pub failure : Past → Record → Option Failure
-failure earlier r = elim (blames earlier r) [ None ↦ None | Some b ↦ downfall b.0 b.1 (own earlier b.0) (own (r ∷ earlier) b.0) ]
+failure earlier r = elim (agent_and_reason earlier r) [ None ↦ None | Some b ↦ downfall b.0 b.1 (own earlier b.0) (own (r ∷ earlier) b.0) ]
 
 -- the notice of a number that tells a failure
 abbrev pub notice_of : ℕ → Failure → Notice

@@ -20,7 +20,7 @@ past_of H = reverse H
 -- ---- Polls
 
 -- what the Begin of a poll names
-pub record Start : Type 0 where
+pub record Beginning : Type 0 where
   pub agent : List ℕ
   pub generation : ℕ
   pub nonce : List ℕ
@@ -28,7 +28,7 @@ pub record Start : Type 0 where
   pub from : ℕ
 
 -- the Begin of a poll
-abbrev pub start_of : Past → ℕ → Option Start
+abbrev pub start_of : Past → ℕ → Option Beginning
 start_of [] p = None
 start_of (Begin q a g n at from ∷ earlier) p =
     if p == q then Some (record { agent = a; generation = g; nonce = n; at = at; from = from }) else start_of earlier p
@@ -93,7 +93,7 @@ terms_of (_ ∷ earlier) g = terms_of earlier g
 
 -- the poll, or the release, is the agent's
 abbrev pub is_poll_of : Past → List ℕ → ℕ → Bool
-is_poll_of past a p = option_map_or (λ (s : Start). bytes_eq a s.agent) (start_of past p) false
+is_poll_of past a p = option_map_or (λ (s : Beginning). bytes_eq a s.agent) (start_of past p) false
 
 abbrev pub is_release_of : Past → List ℕ → ℕ → Bool
 is_release_of past a n = option_map_or (λ (h : Handing). bytes_eq a h.agent) (handing_of past n) false
@@ -148,12 +148,12 @@ generations past = count_by is_install past
 abbrev pub polls : Past → ℕ
 polls past = count_by is_begin past
 
-abbrev pub handings : Past → ℕ
-handings past = count_by is_release past
+abbrev pub releases_made : Past → ℕ
+releases_made past = count_by is_release past
 
 -- how many polls and releases are open
 abbrev pub open_polls : Past → ℕ
 open_polls past = polls past - count_by is_close past
 
 abbrev pub open_releases : Past → ℕ
-open_releases past = handings past - count_by is_settling past
+open_releases past = releases_made past - count_by is_settling past

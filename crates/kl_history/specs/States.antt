@@ -68,9 +68,9 @@ HasReached (_ ∷ earlier) boot = HasReached earlier boot
 
 -- V is due: the installed terms have one, the last finding is a pass, and V has not reached the boot that its quote signs
 pub record IsDue (own : Past) : Type 0 where
-  pub with : Installed
-  pub installed : installed own ≡ Some with
-  pub has_v : IsSome with.terms.v
+  pub installation : Installed
+  pub installed : installed own ≡ Some installation
+  pub has_v : IsSome installation.terms.v
   pub pass : Passing
   pub passed : last_pass own ≡ Some pass
   pub unreached : (boot : Boot) → SignsBoot pass.evidence boot → ¬ (HasReached own boot)

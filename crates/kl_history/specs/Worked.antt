@@ -27,7 +27,7 @@ use Rattle.kl_history.specs.LookBacks.{losses, missed}
 use Rattle.kl_history.specs.Accepted.{no_boot, SignsBoot, IsAccepted, WasAccepted}
 use Rattle.kl_history.specs.States.{HasOp}
 use Rattle.kl_history.specs.Releases.{MayRelease}
-use Rattle.kl_history.specs.Legal.{DifferInPolicy, Row, Legal}
+use Rattle.kl_history.specs.Legal.{AgreeButForPolicy, Row, Legal}
 use Rattle.kl_notice.specs.declared.notice.Notice.{Notice}
 use Rattle.kl_notice.specs.declared.notice.FailWhy.{FailWhy}
 use Rattle.kl_notice.specs.declared.notice.FailWhy.TheVariants as failed_by
@@ -47,7 +47,7 @@ pub record Given : Type 0 where
   pub nonce : ℕ → List ℕ
   pub at : ℕ → ℕ
   pub has_v : IsSome terms.v
-  pub differ : DifferInPolicy terms others
+  pub differ : AgreeButForPolicy terms others
   pub small : length terms.policy.source ≤ 16777216
   pub others_small : length others.policy.source ≤ 16777216
 

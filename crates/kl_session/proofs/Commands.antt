@@ -9,7 +9,7 @@ use Rattle.kl_history.specs.declared.record.InstallWhy.{InstallWhy}
 use Rattle.kl_history.specs.declared.record.InstallWhy.TheVariants.{Replace, Reactivate}
 use Rattle.kl_history.specs.declared.record.Record.{Record}
 use Rattle.kl_history.specs.declared.record.Record.TheVariants.{Install}
-use Rattle.kl_history.specs.Records.{History, Past, past_of, is_open, is_unsettled, own, polls, handings}
+use Rattle.kl_history.specs.Records.{History, Past, past_of, is_open, is_unsettled, own, polls, releases_made}
 use Rattle.kl_history.specs.LookBacks.{Installed, installed}
 use Rattle.kl_history.specs.Legal.{Legal, IsLegalPast}
 use Rattle.kl_history.proofs.Numbers.{open_drawn, drawn_bound}
@@ -134,7 +134,7 @@ joined b b' a n at t ts ss begins grown legal are =
 
 -- ---- V is handed out
 
-handed_by : (past : Past) (n : ℕ) → IsLegalPast past → is_unsettled past n ≡ true → n ≤ handings past
+handed_by : (past : Past) (n : ℕ) → IsLegalPast past → is_unsettled past n ≡ true → n ≤ releases_made past
 handed_by past n legal open_one =
     let found = open_drawn release_numbers past n (sym (is_unsettled-stays past n) ∙ open_one) in
     (drawn_bound release_numbers n found.2 (releases_in_order past legal) found.3).1

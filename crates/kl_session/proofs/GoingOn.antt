@@ -28,7 +28,7 @@ use Rattle.kl_script.specs.declared.command.RegistrarCommand.TheVariants as regi
 use Rattle.kl_script.specs.Commands.{ReplyFields, VerifierCommandFields, add, replace, reactivate, stop, remove, now, begin, reply, state, lose, pick, release, settle, notice, noticed}
 use Rattle.kl_script.specs.Commands.{CommandFields, nothing, to_verifier, to_registrar}
 use Rattle.kl_history.specs.declared.record.Record.{Record}
-use Rattle.kl_history.specs.Records.{History, Past, past_of, Start, terms_of}
+use Rattle.kl_history.specs.Records.{History, Past, past_of, Beginning, terms_of}
 use Rattle.kl_history.specs.Legal.{IsLegalPast, IsCaseOf}
 use Rattle.kl_core.specs.Tickets.{IsOpenTicket}
 use Rattle.kl_session.specs.declared.stop.Stop.TheVariants.{NoNonce}
@@ -73,10 +73,10 @@ unasked_by t n e = IsUnasked (check_under t n e false)
 of_case : (past : Past) (t : TicketFields) (e : Evidence) (signed : Bool) (c : Case) → IsOpenTicket past t → IsCaseOf past t.poll e signed c
     → unasked_by c.terms c.nonce c.evidence ≡ unasked_by t.terms t.nonce e
 of_case past t e signed c (_, given) x =
-    let named : Start = record { agent = t.agent; generation = t.generation; nonce = t.nonce; at = given.at; from = from_of t.kept } in
+    let named : Beginning = record { agent = t.agent; generation = t.generation; nonce = t.nonce; at = given.at; from = from_of t.kept } in
     let start : x.started ≡ named = same_Some x.started named (sym x.began ∙ given.began) in
-    let terms = same_Some c.terms t.terms (sym x.terms ∙ ap (λ (s : Start). terms_of past s.generation) start ∙ given.terms) in
-    let nonce = x.nonce ∙ ap (λ (s : Start). s.nonce) start in
+    let terms = same_Some c.terms t.terms (sym x.terms ∙ ap (λ (s : Beginning). terms_of past s.generation) start ∙ given.terms) in
+    let nonce = x.nonce ∙ ap (λ (s : Beginning). s.nonce) start in
     ap (λ u. unasked_by u c.nonce c.evidence) terms ∙ ap (λ n. unasked_by t.terms n c.evidence) nonce ∙ ap (unasked_by t.terms t.nonce) x.evidence
 
 finding_on : (o o' : Outside) (past : Past) (t : TicketFields) (e : Evidence) (signed : Bool) (found : Finding)

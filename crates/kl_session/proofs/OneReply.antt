@@ -23,7 +23,7 @@ use Rattle.kl_appraise.proofs.OneOutcome.{one_outcome, one_answer}
 use Rattle.kl_incr.specs.Kept.{TicketFields}
 use Rattle.kl_script.specs.Commands.{ReplyFields}
 use Rattle.kl_history.specs.declared.record.Record.{Record}
-use Rattle.kl_history.specs.Records.{Past, Start, start_of, terms_of, own, is_open}
+use Rattle.kl_history.specs.Records.{Past, Beginning, start_of, terms_of, own, is_open}
 use Rattle.kl_history.specs.Accepted.{WasAccepted}
 use Rattle.kl_history.specs.Legal.{IsLegalPast, Legal, IsCaseOf}
 use Rattle.kl_history.proofs.OwnRecords.{begin_at, was_accepted}
@@ -55,16 +55,16 @@ one_evidence p q e f same =
 
 pub one_open_ticket : (past : Past) (t u : TicketFields) → t.poll ≡ u.poll → IsOpenTicket past t → IsOpenTicket past u → t ≡ u
 one_open_ticket past t u poll (_, f) (_, g) =
-    let first : Start = record { agent = t.agent; generation = t.generation; nonce = t.nonce; at = f.at; from = from_of t.kept } in
-    let second : Start = record { agent = u.agent; generation = u.generation; nonce = u.nonce; at = g.at; from = from_of u.kept } in
+    let first : Beginning = record { agent = t.agent; generation = t.generation; nonce = t.nonce; at = f.at; from = from_of t.kept } in
+    let second : Beginning = record { agent = u.agent; generation = u.generation; nonce = u.nonce; at = g.at; from = from_of u.kept } in
     let same : first ≡ second = same_Some first second (sym f.began ∙ ap (λ q. start_of past q) poll ∙ g.began) in
-    let generation = ap (λ (s : Start). s.generation) same in
-    same_tickets t u poll (ap (λ (s : Start). s.agent) same) generation (ap (λ (s : Start). s.nonce) same)
+    let generation = ap (λ (s : Beginning). s.generation) same in
+    same_tickets t u poll (ap (λ (s : Beginning). s.agent) same) generation (ap (λ (s : Beginning). s.nonce) same)
     (same_Some t.terms u.terms (sym f.terms ∙ ap (λ n. terms_of past n) generation ∙ g.terms)) (f.kept ∙ sym g.kept)
 
 -- ---- what a reply is appraised as
 
-accepted_before : (past : Past) (p : ℕ) (s : Start) (xs ys : List EntryFields) (b c : Boot) → IsLegalPast past → start_of past p ≡ Some s
+accepted_before : (past : Past) (p : ℕ) (s : Beginning) (xs ys : List EntryFields) (b c : Boot) → IsLegalPast past → start_of past p ≡ Some s
     → WasAccepted p (own past s.agent) xs b → WasAccepted p (own past s.agent) ys c → (xs ≡ ys) × (b ≡ c)
 accepted_before past p s xs ys b c legal began x y =
     let at = begin_at past p s began in
@@ -79,11 +79,11 @@ one_case : (past : Past) (p : ℕ) (e : Evidence) (said : Bool) (c d : Case) →
 unfolding case_by
 one_case past p e said c d legal x y =
     let start = same_Some x.started y.started (sym x.began ∙ y.began) in
-    let was = subst (λ (s : Start). WasAccepted p (own past s.agent) d.prefix d.boot) (sym start) y.accepted in
+    let was = subst (λ (s : Beginning). WasAccepted p (own past s.agent) d.prefix d.boot) (sym start) y.accepted in
     let accepted = accepted_before past p x.started c.prefix d.prefix c.boot d.boot legal x.began x.accepted was in
-    let terms = same_Some c.terms d.terms (sym x.terms ∙ ap (λ (s : Start). terms_of past s.generation) start ∙ y.terms) in
-    let nonce = x.nonce ∙ ap (λ (s : Start). s.nonce) start ∙ sym y.nonce in
-    let from = x.from ∙ ap (λ (s : Start). s.from) start ∙ sym y.from in
+    let terms = same_Some c.terms d.terms (sym x.terms ∙ ap (λ (s : Beginning). terms_of past s.generation) start ∙ y.terms) in
+    let nonce = x.nonce ∙ ap (λ (s : Beginning). s.nonce) start ∙ sym y.nonce in
+    let from = x.from ∙ ap (λ (s : Beginning). s.from) start ∙ sym y.from in
     let prefix = accepted.0 in
     let boot = accepted.1 in
     let evidence = x.evidence ∙ sym y.evidence in

@@ -23,7 +23,7 @@ pub fn blob_line(alloc: Global, agent: AgentId, blob: &[u8]) -> Result<String, A
     ensures { IfOk result (λ line. string_bytes line ≡ blob_line agent blob.now) }
 {
     let agent = agent.as_str();
-    let mut line = format!(in alloc; "blob {agent} ")?;
+    let mut line = line_of(alloc, format_args!("blob {agent} "))?;
     STANDARD.encode_string(blob, &mut line)?;
     line.push('\n')?;
     Ok(line)
@@ -37,7 +37,7 @@ pub fn record_line(alloc: Global, agent: AgentId, kept: &RegRecord) -> Result<St
     let ek = hex::encode(alloc, kept.ek.as_slice())?;
     let ak = hex::encode(alloc, kept.ak.as_slice())?;
     let contact = write_field(alloc, kept.contact.as_str())?;
-    format!(in alloc; "record {agent} {ek} {ak} {contact}\n")
+    line_of(alloc, format_args!("record {agent} {ek} {ak} {contact}\n"))
 }
 
 /// These agents are active.
@@ -45,7 +45,7 @@ pub fn records_line(alloc: Global, ids: &[AgentId]) -> Result<String, AllocError
     ensures { IfOk result (λ line. string_bytes line ≡ records_line ids.now) }
 {
     let count = ids.len();
-    let mut line = format!(in alloc; "records {count}")?;
+    let mut line = line_of(alloc, format_args!("records {count}"))?;
     for id in ids {
         line.push(' ')?;
         line.push_str(id.as_str())?;

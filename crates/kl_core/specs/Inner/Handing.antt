@@ -8,7 +8,7 @@ use Rattle.kl_appraise.specs.declared.judged.Boot.{Boot}
 use Rattle.kl_appraise.specs.Terms.{TermsFields}
 use Rattle.kl_history.specs.declared.record.Record.{Record}
 use Rattle.kl_history.specs.declared.record.Record.TheVariants.{Verdict, Release}
-use Rattle.kl_history.specs.Records.{History, Past, own, handing_of, is_unsettled, terms_of, is_settling, handings}
+use Rattle.kl_history.specs.Records.{History, Past, own, handing_of, is_unsettled, terms_of, is_settling, releases_made}
 use Rattle.kl_history.specs.States.{handed_for, PassedUnder, HasReached}
 use Rattle.kl_history.specs.Releases.{MayRelease}
 use Rattle.kl_core.specs.declared.entry.Entry.{Entry}
@@ -45,27 +45,25 @@ abbrev pub HasParts : Option TermsFields → Option Evidence → ShareFields →
 HasParts (Some t) (Some e) s = (t.v ≡ Some s.v) × (t.contact ≡ s.contact) × (e.public ≡ s.public)
 HasParts _ _ s = ⊥
 
--- what is kept of a release that is not settled
-pub record IsHanded (H : History) (past : Past) (n : ℕ) (h : Handed) : Type 0 where
+-- what a share is taken from: terms that have a V, and the pass of a poll, whose verdict stands at its place and signs its boot
+pub record HasSources (H : History) (past : Past) (h : Handed) : Type 0 where
   pub with : TermsFields
   pub place_is : terms_at H h.place ≡ Some with
   pub named : terms_of past h.generation ≡ Some with
   pub has_v : IsSome with.v
-  pub released : handing_of past n ≡ Some (record { agent = h.agent; generation = h.generation; poll = h.pass.poll })
-  pub unsettled : is_unsettled past n ≡ true
   pub passed : IsPlaced H past h.pass
   pub under : PassedUnder h.pass.poll (own past h.agent) h.pass.boot
 
--- What a release that may be made now is made with: terms that have a V, and the pass of a poll, whose verdict stands at its place
--- and signs its boot.
+-- what is kept of a release that is not settled
+pub record IsHanded (H : History) (past : Past) (n : ℕ) (h : Handed) : Type 0 where
+  pub sources : HasSources H past h
+  pub released : handing_of past n ≡ Some (record { agent = h.agent; generation = h.generation; poll = h.pass.poll })
+  pub unsettled : is_unsettled past n ≡ true
+
+-- what a release that may be made now is made with
 pub record IsReady (H : History) (past : Past) (h : Handed) : Type 0 where
-  pub with : TermsFields
-  pub place_is : terms_at H h.place ≡ Some with
-  pub named : terms_of past h.generation ≡ Some with
-  pub has_v : IsSome with.v
-  pub passed : IsPlaced H past h.pass
-  pub under : PassedUnder h.pass.poll (own past h.agent) h.pass.boot
-  pub rule : MayRelease past (handings past + 1) h.agent h.generation h.pass.poll
+  pub sources : HasSources H past h
+  pub rule : MayRelease past (releases_made past + 1) h.agent h.generation h.pass.poll
 
 -- the record of a release that is made with this
 abbrev pub release_with : ℕ → Handed → Record
@@ -90,4 +88,4 @@ pub record IsHanding (H : History) (past : Past) (of_agents : BTreeMap (List ℕ
   pub places : (a : List ℕ) (e : Entry) (n : ℕ) (h : Handed) → get (slice_cmp nat_cmp) of_agents a ≡ Some e → e.handed ≡ Some n → get nat_cmp of_releases n ≡ Some h
       → has_place marks (target_of a e.added h.pass.boot) ≡ true
   pub marked_drawn : (t : Target) → is_marked marks t ≡ true → t.added ≤ drawn
-  pub made_is : made ≡ handings past
+  pub made_is : made ≡ releases_made past

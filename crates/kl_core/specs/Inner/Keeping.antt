@@ -11,7 +11,7 @@ use Rattle.kl_appraise.specs.Terms.{TermsFields}
 use Rattle.kl_incr.specs.Kept.{TicketFields}
 use Rattle.kl_history.specs.declared.record.Record.{Record}
 use Rattle.kl_history.specs.declared.record.Record.TheVariants.{Install}
-use Rattle.kl_history.specs.Records.{History, Past, own, Start, start_of, is_open, terms_of, is_begin, is_close, is_settling, generations, polls, handings}
+use Rattle.kl_history.specs.Records.{History, Past, own, Beginning, start_of, is_open, terms_of, is_begin, is_close, is_settling, generations, polls, releases_made}
 use Rattle.kl_history.specs.LookBacks.{installed, came, losses, missed, Passing, last_pass}
 use Rattle.kl_history.specs.Accepted.{SignsBoot, WasAccepted}
 use Rattle.kl_history.specs.States.{ended, HasReached}
@@ -59,7 +59,7 @@ pub record Says (own_past : Past) (t : TermsFields) (e : Entry) : Type 0 where
 
 -- the poll is the agent's, and was begun under this generation
 pub record IsPollOf (past : Past) (a : List ℕ) (g q : ℕ) : Type 0 where
-  pub started : Start
+  pub started : Beginning
   pub began : start_of past q ≡ Some started
   pub agent : started.agent ≡ a
   pub generation : started.generation ≡ g
@@ -95,8 +95,8 @@ HasOpening H past p (Some o) = IsOpening H past p o
 
 -- the numbers that records name were drawn
 pub record Numbers (past : Past) : Type 0 where
-  pub begun_within : (q : ℕ) (s : Start) → start_of past q ≡ Some s → q ≤ polls past
-  pub under_within : (q : ℕ) (s : Start) → start_of past q ≡ Some s → s.generation ≤ generations past
+  pub begun_within : (q : ℕ) (s : Beginning) → start_of past q ≡ Some s → q ≤ polls past
+  pub under_within : (q : ℕ) (s : Beginning) → start_of past q ≡ Some s → s.generation ≤ generations past
   pub named_within : (g : ℕ) (t : TermsFields) → terms_of past g ≡ Some t → g ≤ generations past
 
 pub record IsBook (H : History) (past : Past) (of_agents : BTreeMap (List ℕ) Entry) (of_polls : BTreeMap ℕ Opening) (drawn begun weighs capacity waiting : ℕ) : Type 0 where
@@ -110,7 +110,7 @@ pub record IsBook (H : History) (past : Past) (of_agents : BTreeMap (List ℕ) E
   pub begun_is : begun ≡ polls past
   pub agents_counted : btree_map_len of_agents + count_by is_remove past ≡ count_by is_add past
   pub polls_counted : btree_map_len of_polls + count_by is_close past ≡ polls past
-  pub releases_counted : waiting + count_by is_settling past ≡ handings past
+  pub releases_counted : waiting + count_by is_settling past ≡ releases_made past
   pub weighs_is : weighs ≡ sum_by weight_of past
   -- each open poll has room for its close, and each release that waits for its settlement
   pub room : length H + btree_map_len of_polls + waiting ≤ capacity

@@ -4,7 +4,7 @@ ghost use Rattle.std.specs.Prelude.{◌≡◌, ◌↔◌, ◌≤◌, ◌∷◌, 
 ghost use Rattle.std.specs.Option.{option_map};
 ghost use Rattle.std.specs.BTreeMap.{IsUnchanged};
 ghost use Rattle.kl_history.specs.declared.record.Record.TheVariants.{Settled as SettledRecord};
-ghost use Rattle.kl_history.specs.Records.{own, is_unsettled, handings};
+ghost use Rattle.kl_history.specs.Records.{own, is_unsettled, releases_made};
 ghost use Rattle.kl_history.specs.LookBacks.{installed};
 ghost use Rattle.kl_history.specs.States.{HasReached};
 ghost use Rattle.kl_history.specs.Legal.{HasRoom};
@@ -173,7 +173,7 @@ impl Book {
     fn hand(&mut self, alloc: Global, handed: Handed) -> Result<u64, Refusal>
         requires ready { IsReady self.old.history (past self.old) handed }
         requires room { HasRoom (past self.old) 2 }
-        ensures number { IfOk result (λ n. n ≡ handings (past self.old) + 1) }
+        ensures number { IfOk result (λ n. n ≡ releases_made (past self.old) + 1) }
         ensures history { IfOk result (λ n. self.new ≡ with_more (release_with n handed ∷ []) self.old) }
         ensures err { IfErr result (λ why. why ≡ Refusal.Memory) }
         ensures same { OnErr result (self.new ≡ self.old) }

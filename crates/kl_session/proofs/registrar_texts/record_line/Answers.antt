@@ -12,4 +12,4 @@ returns c =
       ← c.in_ok-ak.ensures,
       ← c.as_str.ensures,
       ← c.in_ok-contact.ensures.written,
-    ) c.format.ensures.ok)
+    ) c.line_of.ensures.ok)

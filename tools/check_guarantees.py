@@ -52,8 +52,6 @@ def functions_of(crate):
     """From the path of each function of the crate to what it states; a type's or a trait's as `Type::method`."""
     found = {}
     for path in sorted((CRATES / crate / "src").rglob("*.rt")):
-        if path.name == "tests.rt":
-            continue
         owner, kind, implemented, current = None, None, None, None
         for line in path.read_text().splitlines():
             block = BLOCK.match(line)

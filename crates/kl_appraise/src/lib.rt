@@ -15,8 +15,6 @@ mod replayed;
 mod shared_terms;
 mod sharing;
 mod terms;
-#[cfg(test)]
-mod tests;
 mod unique;
 mod whole;
 

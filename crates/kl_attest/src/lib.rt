@@ -15,6 +15,3 @@ pub use kl_base::Memory;
 pub use reading::read_attest;
 pub use selections::Selections;
 pub use writing::write_attest;
-
-#[cfg(test)]
-mod tests;

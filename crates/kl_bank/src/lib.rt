@@ -8,8 +8,6 @@
 mod bank;
 mod digest;
 mod hasher;
-#[cfg(test)]
-mod tests;
 
 pub use bank::Bank;
 pub use digest::Digest;

@@ -9,6 +9,3 @@ mod short;
 pub use digits::{digit_value, lower_digit};
 pub use memory::Memory;
 pub use short::Short;
-
-#[cfg(test)]
-mod tests;

@@ -13,6 +13,3 @@ mod unique;
 pub use complete::complete_runs;
 pub use program::{is_only_word, run, run_counted, run_kept};
 pub use unique::one_output;
-
-#[cfg(test)]
-mod tests;

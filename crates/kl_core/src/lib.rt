@@ -19,8 +19,6 @@ mod refusal;
 mod settlement;
 mod settling;
 mod share;
-#[cfg(test)]
-mod tests;
 
 pub use answers::single_answers;
 pub use book::Book;

@@ -27,6 +27,3 @@ pub use listing::lines;
 pub use meaning::{consistent, consistent_with, violation};
 pub use reading::read_entry;
 pub use writing::write_entry;
-
-#[cfg(test)]
-mod tests;

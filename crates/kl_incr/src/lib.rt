@@ -7,8 +7,6 @@
 mod appraised;
 mod polling;
 mod sharing;
-#[cfg(test)]
-mod tests;
 mod ticket;
 
 pub use appraised::{Appraised, Parts};

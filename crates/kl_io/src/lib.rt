@@ -40,6 +40,3 @@ pub use std_sink::StdSink;
 pub use std_source::StdSource;
 pub use std_words::StdWords;
 pub use words::{Words, WordsError};
-
-#[cfg(test)]
-mod tests;

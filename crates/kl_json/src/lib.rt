@@ -19,6 +19,3 @@ pub use reading::parse;
 pub use reply::reply_text;
 pub use serde_json::{Map, Value};
 pub use tree::tree_of;
-
-#[cfg(test)]
-mod tests;

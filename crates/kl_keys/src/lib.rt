@@ -16,6 +16,3 @@ pub use keys::Keys;
 pub use kl_base::Memory;
 pub use mac_keys::MacKeys;
 pub use tags::{tag, tag_matches};
-
-#[cfg(test)]
-mod tests;

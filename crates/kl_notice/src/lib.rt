@@ -7,6 +7,3 @@ mod outbox;
 pub use kl_base::Memory;
 pub use notice::{FailWhy, Notice, text};
 pub use outbox::Outbox;
-
-#[cfg(test)]
-mod tests;

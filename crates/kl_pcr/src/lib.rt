@@ -7,8 +7,6 @@ mod extending;
 mod listed;
 mod quoted;
 mod statics;
-#[cfg(test)]
-mod tests;
 
 pub use counting::Steps;
 pub use extending::{binding, measured, measured_with, replay};

@@ -20,8 +20,6 @@ mod packed;
 mod policy;
 mod reading;
 mod spelling;
-#[cfg(test)]
-mod tests;
 mod threads;
 mod unique;
 mod why;

@@ -7,6 +7,3 @@ mod quote;
 pub use evidence::{EVIDENCE_LIMIT, Evidence};
 pub use kl_base::Memory;
 pub use quote::{Quote, QuoteFault, read_quote, write_quote};
-
-#[cfg(test)]
-mod tests;

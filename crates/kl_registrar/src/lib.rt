@@ -15,6 +15,3 @@ pub use kl_base::Memory;
 pub use record::RegRecord;
 pub use registrar::Registrar;
 pub use theorem::{one_activation, one_count, one_registration};
-
-#[cfg(test)]
-mod tests;

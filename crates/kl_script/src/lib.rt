@@ -21,6 +21,3 @@ pub use fault::CommandFault;
 pub use numbers::read_number;
 pub use reading::{one_command, read_command};
 pub use words::{read_field, unescape_rest, write_field};
-
-#[cfg(test)]
-mod tests;

@@ -32,6 +32,3 @@ pub use naming::NoTerms;
 pub use session::Session;
 pub use stop::Stop;
 pub use unique::{later_moments, single_steps};
-
-#[cfg(test)]
-mod tests;

@@ -5,6 +5,3 @@
 mod shares;
 
 pub use shares::{join, opens, split, split_keys};
-
-#[cfg(test)]
-mod tests;

@@ -20,6 +20,3 @@ pub use outcome::{DropWhy, LostWhy, Outcome};
 pub use policy_kind::PolicyKind;
 pub use text::Text;
 pub use verdict::{AttestCause, EntryCause, FailedCause, InvalidCause, LineCause, Verdict};
-
-#[cfg(test)]
-mod tests;

@@ -1,4 +1,0 @@
-use Rattle.kl_incr.proofs.tests.evidence_is_appraised_and_a_key_fault_gives_the_ticket_back.Given as goal
-
-abbrev pub ghosts-appraised : goal.ghosts-appraised
-ghosts-appraised g a = record { name = a.blank.name; parts = a.blank.parts }

@@ -1,0 +1,65 @@
+//! A share of other values settles nothing.
+
+use super::bytes::{OTHER_QUOTE, QUOTE};
+use super::made::{Made, made_by, withdrawn};
+use super::*;
+use kl_states::Op;
+
+/// How the release was made that is to be settled.
+const OWN: Made = Made {
+    release: 1,
+    agent: 1,
+    generation: 1,
+    poll: 1,
+    v: 7,
+    public: "PUB",
+    quote: QUOTE,
+    contact: "127.0.0.1:9002",
+};
+
+/// Shares for it, one after the other, each made by a book of its own, and the state of the agent where the share settles the
+/// release.
+const SHARES: [(Made, Option<Op>); 9] = [
+    (Made { release: 2, ..OWN }, None),
+    (Made { agent: 2, ..OWN }, None),
+    (
+        Made {
+            generation: 2,
+            ..OWN
+        },
+        None,
+    ),
+    (Made { poll: 2, ..OWN }, None),
+    (Made { v: 8, ..OWN }, None),
+    (
+        Made {
+            public: "PUC",
+            quote: OTHER_QUOTE,
+            ..OWN
+        },
+        None,
+    ),
+    (
+        Made {
+            contact: "127.0.0.1:9003",
+            ..OWN
+        },
+        None,
+    ),
+    (OWN, Some(Op::ProvideV)),
+    (OWN, None),
+];
+
+#[test]
+fn a_share_of_other_values_settles_nothing_and_its_own_settles_once(
+    rt: HostRuntime,
+) -> Result<(), Fail> {
+    let alloc = rt.alloc();
+    let (mut book, own) = made_by(alloc, &OWN)?;
+    own.discard();
+    for (made, op) in SHARES {
+        let (_other, share) = made_by(alloc, &made)?;
+        assert!(rt; withdrawn(&mut book, share) == op);
+    }
+    Ok(())
+}

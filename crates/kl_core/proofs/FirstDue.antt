@@ -44,6 +44,10 @@ sooner_kept : (d x : Due) (r : Option Due) → d.since ≤ x.since → sooner d 
 sooner_kept d x None le = grind (arith)
 sooner_kept d x (Some y) le = grind (arith)
 
+soonest : (d : Due) (r : Option Due) → d.since ≡ 0 → sooner d r ≡ d
+soonest d None zero = refl
+soonest d (Some x) zero = grind (arith)
+
 module _ (openings : BTreeMap ℕ Opening) (now : ℕ) where
   abbrev pub due_by : List ℕ × Entry → Due
   due_by e = record { agent = e.0; since = due_of e.1 }
@@ -80,6 +84,12 @@ module _ (openings : BTreeMap ℕ Opening) (now : ℕ) where
       (λ is. absurd (both_ways (is_sooner (due_of e.1) first && waits openings now e.1) not (ap (λ b. b && waits openings now e.1) is ∙ waiting)))
       (λ is. not_sooner first e es all is waiting was))
       (λ not'. not_waiting first e es all not' was)
+
+  -- of one that is due since moment 0, and of what is left, the one
+  pub none_sooner : (first : Option Due) (e : List ℕ × Entry) (es all : List (List ℕ × Entry)) → is_sooner (due_of e.1) first ≡ true → waits openings now e.1 ≡ true → due_of e.1 ≡ 0
+      → first_of first (first_due openings now (e ∷ es)) ≡ first_due openings now all → Some e.0 ≡ option_map (λ (due : Due). due.agent) (first_due openings now all)
+  none_sooner first e es all is waiting zero was =
+      ap (option_map (λ (due : Due). due.agent)) (sym (ap Some (soonest (due_by e) (first_due openings now es) zero)) ∙ first_changes first e es all is waiting was)
 
   pub none_ahead : (o : Option Due) → first_of o None ≡ o
   none_ahead None = refl

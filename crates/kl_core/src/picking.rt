@@ -51,7 +51,7 @@ fn precedes(openings: &BTreeMap<u64, Opening>, now: u64, entry: &Entry, first: &
 }
 
 /// The agent that is polled next at this moment: of those that wait, the one that is due first, and of these the first by name.
-#[tactic(auto, using(crate::proofs::FirstDue::first_changes, crate::proofs::FirstDue::first_stays, crate::proofs::FirstDue::none_ahead))]
+#[tactic(auto, using(crate::proofs::FirstDue::first_changes, crate::proofs::FirstDue::first_stays, crate::proofs::FirstDue::none_sooner, crate::proofs::FirstDue::none_ahead))]
 pub fn first_due(
     agents: &BTreeMap<AgentId, Entry>,
     openings: &BTreeMap<u64, Opening>,
@@ -63,9 +63,14 @@ pub fn first_due(
     let mut first: Option<Due> = None;
     for (agent, entry) in agents.iter() {
         if precedes(openings, now, entry, &first) {
+            let since = entry.due();
+            // Nothing is due before moment 0, as an agent is that was never polled since it was installed.
+            if since == 0 {
+                return Some(*agent);
+            }
             first = Some(Due {
                 agent: *agent,
-                since: entry.due(),
+                since,
             });
         }
     }

@@ -94,7 +94,7 @@ impl<'a> PathSearcher<'a> {
     }
 }
 
-/// Of each path, whether some pattern excludes it. The patterns are searched for one after another.
+/// Of each path, whether some pattern excludes it. The patterns are searched for one after another; a search is held for each.
 ///
 /// # Errors
 /// [`Memory`] where there is none for a search or for the answers.

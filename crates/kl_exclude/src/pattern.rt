@@ -45,7 +45,7 @@ impl Pattern {
         self.regex.as_str()
     }
 
-    /// What searches in paths. It holds memory for its search, so let one go before another is made.
+    /// What searches in paths. It holds memory for its search.
     pub(crate) fn matcher(&self, alloc: Global) -> Result<Matcher<'_>, Memory>
         ensures { IfOk result (λ m. StandsFor self.now (matcher_pattern m)) }
     {

@@ -66,7 +66,7 @@ impl Patterns {
         self.list.is_empty()
     }
 
-    /// Whether there is one program for all of them.
+    /// Whether there is one program for all of them. It says how they are searched for, and nothing of what is found.
     pub fn are_joined(&self) -> bool {
         self.program.is_some()
     }

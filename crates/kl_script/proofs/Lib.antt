@@ -1,3 +1,4 @@
+pub mod Bytes
 pub mod Splitting
 pub mod Escapes
 pub mod Decimals

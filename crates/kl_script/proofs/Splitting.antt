@@ -20,16 +20,6 @@ HasNo-tail b x xs h i lt = h (suc i) (omega arith)
 pub HasNo-head : (b x : ℕ) (xs : List ℕ) → HasNo b (x ∷ xs) → x ≢ b
 HasNo-head b x xs h = h 0 (omega arith)
 
--- what `split_once` gives at an ASCII character
-pub cut_found : (b : ℕ) (text : List ℕ) (r : Option (Bor (List ℕ) × Bor (List ℕ))) → IsSplitOnceResult b text r → b < 128
-    → IfOk (ok_or r NoCommand) (λ cut. (text ≡ cut.0.now ++ b ∷ cut.1.now) × HasNo b cut.0.now)
-cut_found b text (Some cut) h lt = split_parts b text (Some cut) h lt
-cut_found b text None h lt = tt
-
-pub cut_none : (b : ℕ) (text : List ℕ) (r : Option (Bor (List ℕ) × Bor (List ℕ))) → IsSplitOnceResult b text r → b < 128 → OnErr (ok_or r NoCommand) (HasNo b text)
-cut_none b text (Some cut) h lt = tt
-cut_none b text None h lt = split_parts b text None h lt
-
 -- the word before the first such byte, and what stands behind it
 pub same_word : (b : ℕ) (xs ys more others : List ℕ) → HasNo b xs → HasNo b ys → xs ++ b ∷ more ≡ ys ++ b ∷ others → (xs ≡ ys) × (more ≡ others)
 same_word b [] [] more others hx hy e = (refl, tails e)

@@ -67,7 +67,7 @@ pub(crate) fn read_registrar(alloc: Global, line: &str) -> Result<RegistrarComma
     ensures found { IfOk result (λ command. HasRegistrarForm line.now command) }
     ensures none { result ≡ Err CommandFault.NoCommand → (said : AnyCommand) → ¬ (HasRegistrarForm line.now said) }
 {
-    let Ok((name, arguments)) = cut_at(line, ' ') else {
+    let Ok((name, arguments)) = cut_at(line, b' ') else {
         return read_word(line);
     };
     match name {

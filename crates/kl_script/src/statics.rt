@@ -43,7 +43,7 @@ impl Spelled for Static {
 
     /// The number of a PCR, an equals sign, and the digests that are allowed there, between commas.
     fn read(alloc: Global, written: &str) -> Result<Static, CommandFault> {
-        let (pcr, digests) = cut_at(written, '=')?;
+        let (pcr, digests) = cut_at(written, b'=')?;
         let Some(pcr) = read_pcr(pcr) else {
             return Err(CommandFault::NoCommand);
         };

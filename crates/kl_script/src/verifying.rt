@@ -159,7 +159,7 @@ fn read_settle(arguments: &str) -> Result<Settle, CommandFault>
     ensures found { IfOk result (λ settle. SpellsSettle arguments.now settle) }
     ensures none { result ≡ Err CommandFault.NoCommand → (said : AnySettle) → ¬ (SpellsSettle arguments.now said) }
 {
-    let (number, delivery) = cut_at(arguments, ' ')?;
+    let (number, delivery) = cut_at(arguments, b' ')?;
     let number = read_decimal(number)?;
     let Some(delivery) = read_delivery(delivery) else {
         return Err(CommandFault::NoCommand);
@@ -186,7 +186,7 @@ pub(crate) fn read_verifier(alloc: Global, line: &str) -> Result<VerifierCommand
     ensures found { IfOk result (λ command. HasVerifierForm line.now (verifier_fields command)) }
     ensures none { result ≡ Err CommandFault.NoCommand → (said : VerifierCommandFields) → ¬ (HasVerifierForm line.now said) }
 {
-    let Ok((name, arguments)) = cut_at(line, ' ') else {
+    let Ok((name, arguments)) = cut_at(line, b' ') else {
         return read_word(line);
     };
     match name {

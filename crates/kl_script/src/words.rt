@@ -5,15 +5,20 @@ ghost use Rattle.std.specs.String.{string_bytes};
 ghost use Rattle.kl_script.specs.Words.{HasNo, IsEscaped, IsField, IsSplit, StandsFor, field_of, spelling_of};
 
 use crate::fault::CommandFault;
+use memchr::memchr;
 use std::alloc::{AllocError, Global};
 
-/// What stands before the first separator, and what stands behind it.
-pub(crate) fn cut_at(text: &str, separator: char) -> Result<(&str, &str), CommandFault>
+/// What stands before the first separator, an ASCII character, and what stands behind it.
+pub(crate) fn cut_at(text: &str, separator: u8) -> Result<(&str, &str), CommandFault>
     requires { separator < 128 }
     ensures found { IfOk result (λ cut. (text.now ≡ cut.0.now ++ separator ∷ cut.1.now) × HasNo separator cut.0.now) }
     ensures none { OnErr result (HasNo separator text.now) }
 {
-    text.split_once(separator).ok_or(CommandFault::NoCommand)
+    let bytes = text.as_bytes();
+    match memchr(separator, bytes) {
+        Some(at) => Ok((&text[..at], &text[at + 1..])),
+        None => Err(CommandFault::NoCommand),
+    }
 }
 
 /// The first words of a text, each before one space, and what stands behind the last of these spaces.
@@ -29,7 +34,7 @@ pub(crate) fn split_words<'a>(
     let mut words = Vec::with_capacity(alloc, count)?;
     let mut rest = text;
     for _ in 0..count {
-        let (word, behind) = cut_at(rest, ' ')?;
+        let (word, behind) = cut_at(rest, b' ')?;
         words.push(word)?;
         rest = behind;
     }
@@ -62,7 +67,7 @@ pub fn unescape_rest(alloc: Global, written: &str) -> Result<String, CommandFaul
 {
     let mut text = String::with_capacity(alloc, written.len())?;
     let mut rest = written;
-    while let Some((stretch, behind)) = rest.split_once('\\') {
+    while let Ok((stretch, behind)) = cut_at(rest, b'\\') {
         text.push_str(stretch)?;
         let (byte, behind) = escaped(behind)?;
         text.push(byte)?;

@@ -17,11 +17,18 @@ fn is_judged(alloc: Global, kind: PolicyKind, text: &str, line: &str, want: &str
 }
 
 fn reason(alloc: Global, kind: PolicyKind, text: &str, line: &str) -> Option<Option<Why>> {
-    let text = String::from_str(alloc, text).ok()?;
-    let policy = read_policy(alloc, kind, text, &mut StdMaker::new()).ok()?;
+    let policy = shared(alloc, kind, text)?;
     let entries = [read_entry(line).ok()?];
-    let found = policy.share().ok()?.first_bad(alloc, &entries).ok()?;
+    let found = policy.first_bad(alloc, &entries).ok()?;
     Some(found.map(|(_place, why)| why))
+}
+
+/// A policy of this text that was shared, where that one equals it and has its form and text.
+fn shared(alloc: Global, kind: PolicyKind, text: &str) -> Option<Policy> {
+    let copy = String::from_str(alloc, text).ok()?;
+    let policy = read_policy(alloc, kind, copy, &mut StdMaker::new()).ok()?;
+    let other = policy.share().ok()?;
+    (other.equals(&policy) && other.kind() == kind && other.source() == text).then_some(other)
 }
 
 // Upper-case digits, an empty line, a path that begins with a space, and a path with three digests of which one stands twice.

@@ -106,9 +106,6 @@ by_binding k t v a h nonce set sized digest other =
 pub read_attests : (bank : PcrBank) (e : Evidence) (a s v : List ℕ) (t : Quoted) → IsReadable bank e a s v t → Attests e.quote t
 read_attests bank e a s v t r = (a, s, v, r.text, r.spells)
 
-pub read_values : (bank : PcrBank) (e : Evidence) (a s v : List ℕ) (t : Quoted) → IsReadable bank e a s v t → HasValues e.quote v
-read_values bank e a s v t r = (a, s, r.text)
-
 -- ---- Which of rules 1 to 3 is the first
 
 pub unread_form : (k : Check) (part : ℕ) → IsFormFault k.evidence.quote part → UnreadRules k (Form part)

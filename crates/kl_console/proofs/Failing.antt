@@ -3,10 +3,6 @@ use Rattle.std.proofs.Common.{◌≡◌, ap, ◌∙◌, arith, Result, Ok, Err}
 use Rattle.kl_io.specs.Calls.{Calls, Counts, one_more}
 use Rattle.kl_console.specs.Calls.{FailsAtLast}
 
--- one call
-pub Counts-fails : (a b : Calls) (F : Type 0) → Counts a b F → FailsAtLast a b F
-Counts-fails a b F c = record { met = λ f. ((c.met f).0, (c.met f).1); unmet = λ n. (c.unmet n).0; later = c.later }
-
 -- none of some calls
 pub fails_none : (a b : Calls) (F : Type 0) → b.faults ≡ a.faults → ¬ F → FailsAtLast a b F
 fails_none a b F same none = record { met = λ f. absurd (none f); unmet = λ _. same; later = omega (arith, same) }

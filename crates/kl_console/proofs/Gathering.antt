@@ -108,10 +108,6 @@ reads_primed before now after old primed new result p reads same r =
 
 -- ---- how a line is left
 
--- memory ran out over it
-pub reads_short : (before now : SourceTold) (initial r p : Reading) → Gathered before now initial r → ReadsLine before now initial p (Err Memory)
-reads_short before now initial r p h = (h.bytes.0, takes_more before now h.bytes.0 0 1 (omega arith) h.bytes.1, tt)
-
 -- the source met a fault, or memory ran out over what it was asked for
 pub reads_broken : (before now after : SourceTold) (initial r p f : Reading) (why : ReadError) → Gathered before now initial r → Moved r p → Asked now after p f → f.ahead ≡ []
     → ReadsLine before after initial f (Err why)

@@ -78,20 +78,6 @@ ends_as a b B end ends read write =
       memory = by Memory;
     }
 
--- a run that did not begin, as its words are others
-pub ends_unused : (a : Moment) → EndsAs a a 2 (book_or_empty None)
-ends_unused a = record {
-  done = λ is. absurd (omega (arith, is));
-  fault = λ is. absurd (omega (arith, is));
-  read_fault = λ is. absurd (omega (arith, is));
-  read_cause = fails_none _ _ _ refl (λ is. omega (arith, is));
-  write_fault = λ is. absurd (omega (arith, is));
-  write_cause = fails_none _ _ _ refl (λ is. omega (arith, is));
-  nonce_fault = λ is. absurd (omega (arith, is));
-  over = λ is. absurd (omega (arith, is));
-  memory = λ is. absurd (omega (arith, is));
-}
-
 pub is_status : (end : End) → IsStatus (status_of end)
 is_status Done = (0, omega arith, refl)
 is_status Fault = (2, omega arith, refl)

@@ -91,37 +91,6 @@ evidence_later (Remove a) past p e legal row is = refl
 pub evidence_stays : (r : Record) (past : Past) (p : ℕ) (e : Evidence) → IsLegalPast (r ∷ past) → evidence_of past p ≡ Some e → evidence_of (r ∷ past) p ≡ Some e
 evidence_stays r past p e legal is = evidence_later r past p e legal.0 legal.1 (evidence_stands past p e is) ∙ is
 
-evidence_is : {p : ℕ} {e : Evidence} {s : Bool} {v : AnyVerdict} {c : Bool} {behind past : Past} → IsLegalPast past → Stands (Verdict p e s v c) behind past → evidence_of past p ≡ Some e
-evidence_is {p} legal here = cond-true (eqb p p) _ _ (eq-eqb p p refl)
-evidence_is {p} {e} {s} {v} {c} {behind} legal (earlier {newer = r} {past = past} stands) =
-    evidence_later r past p e legal.0 legal.1 (record { signed = s; verdict = v; current = c; behind = behind; stands = stands }) ∙ evidence_is legal.0 stands
-
--- the last pass of an agent
-last_stands : (own : Past) (pass : Passing) → last_pass own ≡ Some pass → PollStands own pass.poll pass.evidence
-last_stands [] pass is = absurd (none-some pass is)
-last_stands (Install a g t w ∷ past) pass is = absurd (none-some pass is)
-last_stands (Restart q d s true ∷ past) pass is = absurd (none-some pass is)
-last_stands (Restart q d s false ∷ past) pass is = one_more _ past pass.poll pass.evidence (last_stands past pass is)
-last_stands (Verdict q d s (Pass cut) true ∷ past) pass is = record {
-  signed = s;
-  verdict = Pass cut;
-  current = true;
-  behind = past;
-  stands = subst (λ x. Stands x past (Verdict q d s (Pass cut) true ∷ past)) (ap (λ (x : Passing). Verdict x.poll x.evidence s (Pass cut) true) (same_Some _ pass is)) here;
-}
-last_stands (Verdict q d s (Failed why) true ∷ past) pass is = absurd (none-some pass is)
-last_stands (Verdict q d s (Invalid why) true ∷ past) pass is = absurd (none-some pass is)
-last_stands (Verdict q d s (Pass cut) false ∷ past) pass is = one_more _ past pass.poll pass.evidence (last_stands past pass is)
-last_stands (Verdict q d s (Failed why) false ∷ past) pass is = one_more _ past pass.poll pass.evidence (last_stands past pass is)
-last_stands (Verdict q d s (Invalid why) false ∷ past) pass is = one_more _ past pass.poll pass.evidence (last_stands past pass is)
-last_stands (Begin q a g n at from ∷ past) pass is = one_more _ past pass.poll pass.evidence (last_stands past pass is)
-last_stands (Lost q w c ∷ past) pass is = one_more _ past pass.poll pass.evidence (last_stands past pass is)
-last_stands (Dropped q w ∷ past) pass is = one_more _ past pass.poll pass.evidence (last_stands past pass is)
-last_stands (Release n a g q ∷ past) pass is = one_more _ past pass.poll pass.evidence (last_stands past pass is)
-last_stands (Settled n o c ∷ past) pass is = one_more _ past pass.poll pass.evidence (last_stands past pass is)
-last_stands (Stop a ∷ past) pass is = one_more _ past pass.poll pass.evidence (last_stands past pass is)
-last_stands (Remove a ∷ past) pass is = one_more _ past pass.poll pass.evidence (last_stands past pass is)
-
 -- what stands among the records of an agent stands in the past
 among : (past : Past) (a : List ℕ) (p : ℕ) (e : Evidence) → PollStands (own past a) p e → PollStands past p e
 among [] a p e is = is
@@ -132,9 +101,6 @@ among (r ∷ past) a p e is = by_case (belongs past a r) refl is (among past a p
     | inr inside ↦ one_more r past p e (rest (record { signed = is.signed; verdict = is.verdict; current = is.current; behind = is.behind; stands = inside }))
   ]
   by_case false theirs is rest = one_more r past p e (rest is)
-
-pub pass_evidence : (past : Past) (a : List ℕ) (pass : Passing) → IsLegalPast past → last_pass (own past a) ≡ Some pass → evidence_of past pass.poll ≡ Some pass.evidence
-pass_evidence past a pass legal is = evidence_is legal (among past a pass.poll pass.evidence (last_stands (own past a) pass is)).stands
 
 -- ---- under which boot a poll passed
 pub passed_last : (own : Past) (pass : Passing) (boot : Boot) → last_pass own ≡ Some pass → SignsBoot pass.evidence boot → PassedUnder pass.poll own boot

@@ -331,10 +331,6 @@ book_close H past agents agents' openings openings' drawn begun weighs capacity 
     len up less)
 
 -- ---- what is looked up
-pub known_of : (H : History) (past : Past) (t : TicketFields) (entry : Option Entry) → IfSome entry (λ e. IsEntry H past t.agent e) → IfSome entry (λ e. e.end ≡ None) → IsCurrentEntry H past t entry
-known_of H past t None is live = tt
-known_of H past t (Some e) is live = (is, live)
-
 pub opening_of : (H : History) (past : Past) (p : ℕ) (o : Option Opening) → HasOpening H past p o → is_open past p ≡ true → (k : Opening) × IsOpening H past p k × (o ≡ Some k)
 opening_of H past p None has opened = absurd (both_ways (is_open past p) has opened)
 opening_of H past p (Some k) has opened = (k, has, refl)

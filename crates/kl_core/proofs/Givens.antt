@@ -118,21 +118,3 @@ pub share_stands : (old new : History) (s : ShareFields) → IsPrefix old new �
 share_stands old new s known legal given = later (λ past. IsGivenShare past s) (λ newer past. share_behind newer past s) old new known legal given
 
 -- ---- releases that are not settled
-or_true : (b : Bool) → (b || true) ≡ true
-or_true true = refl
-or_true false = refl
-
-pub unsettled_stays : (r : Record) (past : Past) (n : ℕ) → settles n r ≡ false → is_unsettled past n ≡ true → is_unsettled (r ∷ past) n ≡ true
-unsettled_stays r past n other is = ap (λ b. not b && (releases n r || is_unsettled past n)) other ∙ ap (λ b. releases n r || b) is ∙ or_true (releases n r)
-
--- until a record settles it
-pub unsettled_stands : (old more : History) (n : ℕ) → All (λ r. settles n r ≡ false) more → is_unsettled (past_of old) n ≡ true → is_unsettled (past_of (old ++ more)) n ≡ true
-unsettled_stands old [] n others is = ap (λ H. is_unsettled (past_of H) n) (append-nil old) ∙ is
-unsettled_stands old (r ∷ more) n others is =
-    ap (λ H. is_unsettled (past_of H) n) (sym (append_assoc old (r ∷ []) more))
-    ∙ unsettled_stands (old ++ r ∷ []) more n (All-tail (λ r. settles n r ≡ false) r more others)
-    (ap (λ past. is_unsettled past n) (past_of-snoc old r) ∙ unsettled_stays r (past_of old) n (All-head (λ r. settles n r ≡ false) r more others) is)
-
--- and the share of it is that of an open release
-pub open_share_stands : (old more : History) (s : ShareFields) → Legal (old ++ more) → All (λ r. settles s.number r ≡ false) more → IsOpenShare (past_of old) s → IsOpenShare (past_of (old ++ more)) s
-open_share_stands old more s legal others is = (unsettled_stands old more s.number others is.0, share_stands old (old ++ more) s (more, refl) legal is.1)

@@ -35,28 +35,6 @@ use Rattle.kl_core.proofs.Standing.{live_of, opening_at}
 use Rattle.kl_core.proofs.Keeping.{agents_at, polls_at, entry_step, has_theirs, newly, entry_fresh, begins_theirs, entry_polled, has_opening, closed_opening, opening_begun}
 
 -- ---- what a book's counts are
-pub open_polls_is : (H : History) (past : Past) (agents : BTreeMap (List ℕ) Entry) (openings : BTreeMap ℕ Opening) (drawn begun weighs capacity waiting : ℕ)
-    → IsBook H past agents openings drawn begun weighs capacity waiting → open_polls past ≡ btree_map_len openings
-open_polls_is H past agents openings drawn begun weighs capacity waiting book = omega (arith, book.polls_counted)
-
-pub open_releases_is : (H : History) (past : Past) (agents : BTreeMap (List ℕ) Entry) (openings : BTreeMap ℕ Opening) (drawn begun weighs capacity waiting : ℕ)
-    → IsBook H past agents openings drawn begun weighs capacity waiting → open_releases past ≡ waiting
-open_releases_is H past agents openings drawn begun weighs capacity waiting book = omega (arith, book.releases_counted)
-
-pub drawn_below : (H : History) (past : Past) (agents : BTreeMap (List ℕ) Entry) (openings : BTreeMap ℕ Opening) (drawn begun weighs capacity waiting : ℕ)
-    → IsBook H past agents openings drawn begun weighs capacity waiting → drawn ≤ 1000000
-drawn_below H past agents openings drawn begun weighs capacity waiting book =
-    let some = count_by-le-length is_install past in
-    let fits = book.fits.room in
-    omega (arith, book.drawn_is)
-
-pub begun_below : (H : History) (past : Past) (agents : BTreeMap (List ℕ) Entry) (openings : BTreeMap ℕ Opening) (drawn begun weighs capacity waiting : ℕ)
-    → IsBook H past agents openings drawn begun weighs capacity waiting → begun ≤ 1000000
-begun_below H past agents openings drawn begun weighs capacity waiting book =
-    let some = count_by-le-length is_begin past in
-    let fits = book.fits.room in
-    omega (arith, book.begun_is)
-
 -- what is kept has room after a record that opens and closes so many polls, and makes and settles so many releases
 pub fits_more : (past : Past) (r : Record) (opened closed made settled : ℕ) → count_by is_settling past ≤ releases_made past
     → releases_made (r ∷ past) ≡ releases_made past + made → count_by is_settling (r ∷ past) ≡ count_by is_settling past + settled
@@ -72,24 +50,6 @@ fits_more past r opened closed made settled fewer making settling opening closin
     record { room = omega arith; bytes = omega arith }
 
 -- ---- no records
-pub book_nil : (agents : BTreeMap (List ℕ) Entry) (openings : BTreeMap ℕ Opening) (capacity : ℕ) → ((a : List ℕ) → get (slice_cmp nat_cmp) agents a ≡ None)
-    → ((p : ℕ) → get nat_cmp openings p ≡ None) → btree_map_len agents ≡ 0 → btree_map_len openings ≡ 0 → IsBook [] [] agents openings 0 0 0 capacity 0
-book_nil agents openings capacity no_agents no_polls none no_poll = record {
-  legal = tt;
-  fits = record { room = omega arith; bytes = omega arith };
-  as_long = refl;
-  numbers = numbers_nil;
-  agents_are = λ a. subst (λ (o : Option Entry). HasEntry [] [] a o) (sym (no_agents a)) refl;
-  polls_are = λ p. subst (λ (o : Option Opening). HasOpening [] [] p o) (sym (no_polls p)) refl;
-  drawn_is = refl;
-  begun_is = refl;
-  agents_counted = omega arith;
-  polls_counted = omega arith;
-  releases_counted = refl;
-  weighs_is = refl;
-  room = omega arith;
-}
-
 -- the invariant of a book over the records in their order
 pub in_order : (H : History) (r : Record) (agents : BTreeMap (List ℕ) Entry) (openings : BTreeMap ℕ Opening) (drawn begun weighs capacity waiting : ℕ)
     → IsBook (H ++ r ∷ []) (r ∷ past_of H) agents openings drawn begun weighs capacity waiting → IsBook (H ++ r ∷ []) (past_of (H ++ r ∷ [])) agents openings drawn begun weighs capacity waiting
@@ -345,13 +305,6 @@ book_changed H past agents agents' openings drawn begun weighs capacity capacity
     let same : with_policy p entry.with ≡ t = same_Some _ _ (sym (ap (λ o. option_map (with_policy p) o) entry.place_is) ∙ made) in
     subst (λ (t : TermsFields). IsBook (H ++ Install a (drawn + 1) t Replace ∷ []) (Install a (drawn + 1) t Replace ∷ past) agents' openings (drawn + 1) begun (weighs + length p.source) capacity' waiting) same
     (book_replaced H past agents agents' openings drawn begun weighs capacity capacity' waiting a entry.with p e book entry entry.place_is up len room bytes enough)
-
--- the record of that
-pub reinstalled : (H : History) (past : Past) (a : List ℕ) (g : ℕ) (t : TermsFields) (e : Entry) (change : TermsFields → TermsFields) (w : InstallWhy)
-    → IsEntry H past a e → terms_at H e.place ≡ Some t → reinstall change w a g past ≡ Install a g (change t) w ∷ []
-reinstalled H past a g t e change w entry placed =
-    ap (λ o. option_map_or (λ (i : Installed). Install a g (change i.terms) w ∷ []) o []) entry.says.terms_are
-    ∙ ap (λ (t : TermsFields). Install a g (change t) w ∷ []) (same_Some _ _ (sym entry.place_is ∙ placed))
 
 -- ---- an agent is stopped or removed
 pub book_stopped : (H : History) (past : Past) (agents agents' : BTreeMap (List ℕ) Entry) (openings : BTreeMap ℕ Opening) (drawn begun weighs capacity capacity' waiting : ℕ) (a : List ℕ) (e : Entry)

@@ -160,10 +160,6 @@ pub data Follows (H : History) (past : Past) (r : Record) (agents : BTreeMap (Li
       → ((k : Passed) → f.pass ≡ Some k → (e.pass ≡ Some k) ⊎ IsPlaced (H ++ r ∷ []) (r ∷ past) k) → Follows H past r agents drawn drawn' a f
   enters : (g : ℕ) (t : TermsFields) → r ≡ Install a g t Add → f.added ≡ drawn + 1 → f.handed ≡ None → f.pass ≡ None → drawn + 1 ≤ drawn' → Follows H past r agents drawn drawn' a f
 
-some_bool : (b : Bool) → (b ≡ true → ⊥) → b ≡ false
-some_bool true is = absurd (is refl)
-some_bool false is = refl
-
 no_more_reached : (past : Past) (a : List ℕ) (g : ℕ) (t : TermsFields) (b : Boot) → ¬ (HasReached (own (Install a g t Add ∷ past) a) b)
 no_more_reached past a g t b has = subst (λ (o : Past). HasReached o b) (own-yes (Install a g t Add) past a (eq_yes a a refl)) has
 

@@ -162,17 +162,6 @@ not_polled past a p (g, t, may) (i, is, live, busy) =
     let same = ap (λ (j : Installed). j.generation) (one_installed past a i (record { generation = g; terms = t }) is may.with) in
     may.idle p (subst (λ (n : ℕ). IsBusy past a n p) same busy)
 
--- and it is not refused before room is asked for
-not_barred : (past : Past) (a : List ℕ) (why : Refusal) → MayPoll past a → RefusesBegin past a why → why ≢ Memory
-    → (why ≡ JournalRecords) ⊎ (why ≡ JournalBytes)
-not_barred past a NoAgent (g, t, may) none n = absurd (none-some _ (sym none ∙ may.with))
-not_barred past a (WrongState o) (g, t, may) over n = absurd (none-some o (sym may.live ∙ over.1))
-not_barred past a (Busy p) may busy n = absurd (not_polled past a p may busy)
-not_barred past a JournalRecords may full n = inl refl
-not_barred past a JournalBytes may full n = inr refl
-not_barred past a Memory may short n = absurd (n refl)
-not_barred past a _ may none n = absurd none
-
 one_poll : (H : History) (a : List ℕ) (p q : ℕ) → Legal H → IsPolled (past_of H) a p → IsPolled (past_of H) a q → p ≡ q
 one_poll H a p q legal (i, is, live, busy) (j, also, _, other) =
     let same = ap (λ (k : Installed). k.generation) (one_installed (past_of H) a i j is also) in

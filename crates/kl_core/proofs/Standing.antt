@@ -29,10 +29,6 @@ some_pass : (o : Option Passed) → is_some o ≡ true → (k : Passed) × (o �
 some_pass (Some k) is = (k, refl)
 some_pass None is = cc
 
--- the pass of an agent to which V is due
-pub pass_due : (e : Entry) → is_due e ≡ true → (k : Passed) × (e.pass ≡ Some k)
-pass_due e is = some_pass e.pass (and_parts (is_some e.pass) (not e.reached) (and_parts e.has_v (is_some e.pass && not e.reached) is).1).0
-
 not_so : (b : Bool) → not b ≡ true → b ≡ false
 not_so false is = refl
 not_so true is = cc

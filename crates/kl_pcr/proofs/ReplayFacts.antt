@@ -13,12 +13,6 @@ pub replay_of-nil : (bank : Bank) → replay_of bank [] ≡ zeros_of bank
 unfolding replay_back
 replay_of-nil bank = refl
 
--- the last entry is extended into what the others left
-pub replay_of-append : (bank : Bank) (entries : List EntryFields) (e : EntryFields)
-    → replay_of bank (entries ++ e ∷ []) ≡ extended bank (replay_of bank entries) (measured_of bank e)
-unfolding replay_back
-replay_of-append bank entries e = ap (replay_back bank) (reverse-append entries (e ∷ []))
-
 replay_back-folded : (bank : Bank) (entries : List EntryFields)
     → replay_back bank entries ≡ folded bank (zeros_of bank) (map (measured_of bank) (reverse entries))
 unfolding replay_back

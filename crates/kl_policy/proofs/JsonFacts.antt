@@ -198,10 +198,6 @@ first_unmade {B = B} R S Good Fails each (b ∷ before) x after (y ∷ ys) (z �
 
 -- ---- what says nothing
 
-pub blank_text : (text : List ℕ) (b : Bool) → b ≡ (length text == 0) → (IsTrue b → IsSome (as_blank (string text))) × (IsSome (as_blank (string text)) → IsTrue b)
-blank_text [] b is = (λ _. refl, λ _. is)
-blank_text (x ∷ text) b is = (λ h. absurd (let none : length (x ∷ text) ≡ 0 = eqb-true (length (x ∷ text)) 0 (sym is ∙ h) in omega arith), λ h. cc h)
-
 pub blank_items : (vs : List Value) (b : Bool) → b ≡ (length vs == 0) → (IsTrue b → IsSome (as_blank (array (items_view vs)))) × (IsSome (as_blank (array (items_view vs))) → IsTrue b)
 blank_items [] b is = (λ _. refl, λ _. is)
 blank_items (v ∷ vs) b is = (λ h. absurd (let none : length (v ∷ vs) ≡ 0 = eqb-true (length (v ∷ vs)) 0 (sym is ∙ h) in omega arith), λ h. cc h)
@@ -315,20 +311,6 @@ value_fault text d told reads (Unsupported name) h = record { value = d; reads =
 value_fault text d told reads (Over limit) h = record { value = d; reads = reads; fault = h; unasked = refl }
 value_fault text d told reads (Exclude why) h = absurd h
 value_fault text d told reads Memory h = inl refl
-
--- nor is a text one that has no value
-pub parse_fault : (text : List ℕ) (told : MakerTold) (fault : PolicyFault) → IsParseFault text fault → IsJsonFault text told told fault
-parse_fault text told (Json NotJson) h = (h, refl)
-parse_fault text told (Json (Missing name)) h = absurd h
-parse_fault text told (Json (Kind name)) h = absurd h
-parse_fault text told (Json (Range name)) h = absurd h
-parse_fault text told (Json no_memory) h = absurd h
-parse_fault text told (Line place) h = absurd h
-parse_fault text told (BadDigest i j) h = absurd h
-parse_fault text told (Unsupported name) h = absurd h
-parse_fault text told (Over limit) h = absurd h
-parse_fault text told (Exclude why) h = absurd h
-parse_fault text told Memory h = inl refl
 
 of_patterns : (text : List ℕ) (d : Data) (digests : DigestMap) (patterns : List (List ℕ)) (passes : Bool) (So : List (List ℕ) → Type 0) → Reads text d
     → HasParts d digests patterns passes → So patterns → IsOfPatterns text So

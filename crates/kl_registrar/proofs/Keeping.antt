@@ -40,12 +40,6 @@ kept_some past (Some r) kept = ap is_some (sym kept.0)
 pub has_kept : (entries : Entries) (past : Log) (id : List ℕ) → Keeps entries past → is_some (kept_of id entries) ≡ has_record past id
 has_kept entries past id keeps = kept_some (own past id) (kept_of id entries) (keeps.each id)
 
-pub keeps_none : (entries : Entries) → entries ≡ [] → Keeps entries []
-keeps_none entries none = record {
-  each = λ id. subst (λ (es : Entries). IsKept [] (kept_of id es)) (sym none) refl;
-  counted = ap length none;
-}
-
 pub keeps_register : (old new : Entries) (past : Log) (id : List ℕ) (t : Registration) (r : RegRecord) → Keeps old past → told_of r ≡ t → r.active ≡ false
     → Puts id r old new → Keeps new (Register id t ∷ past)
 keeps_register old new past id t r keeps told inactive puts = record {

@@ -20,13 +20,6 @@ use Rattle.kl_registrar.proofs.Keeping.{Entries}
 use Rattle.kl_registrar.proofs.Members.{none_of, first_of, later_of, cases_of}
 use Rattle.kl_registrar.proofs.Names.{same_or_not, same_self}
 
--- the first entry is listed, or not, before the others
-pub listed_more : (ids : List (List ℕ)) (e : List ℕ × RegRecord) (es all : Entries) → e.1.active ≡ true → ids ++ actives (e ∷ es) ≡ actives all
-    → (ids ++ e.0 ∷ []) ++ actives es ≡ actives all
-listed_more ids e es all active was =
-    append_assoc ids (e.0 ∷ []) (actives es)
-    ∙ ap (λ (l : List (List ℕ)). ids ++ l) (sym (cond-true e.1.active (e.0 ∷ actives es) (actives es) active)) ∙ was
-
 pub listed_same : (ids : List (List ℕ)) (e : List ℕ × RegRecord) (es all : Entries) → e.1.active ≡ false → ids ++ actives (e ∷ es) ≡ actives all
     → ids ++ actives es ≡ actives all
 listed_same ids e es all not was =

@@ -171,10 +171,6 @@ registrar_not_blank line Records h = subst (λ (l : List ℕ). ¬ (IsBlank l)) (
 registrar_not_blank line said h =
     subst (λ (l : List ℕ). ¬ (IsBlank l)) (sym h.1) (starts_named (name_of_registrar said) h.0 (eqb-false (get_or (name_of_registrar said) 0 0) 35 refl))
 
--- what a test for blank lines says where it fails
-pub not_blank : {test : Bool} {line : List ℕ} → test ≡ false → (test ≡ true → IsBlank line) × (IsBlank line → test ≡ true) → ¬ (IsBlank line)
-not_blank fails means blank = false≢true (sym fails ∙ means.1 blank)
-
 -- ---- a name names one command
 
 -- no two names have bytes of one sum

@@ -132,15 +132,6 @@ some_made o o' H k text p is r = elim r.asked [
   | inr same ↦ record { asked = none_asked k text o.maker o'.maker same.1; rest = r.rest }
 ]
 
--- memory ran out over the text
-pub read_in_part : (k : PolicyKind) (text : List ℕ) (a b : MakerTold) → IsNoPolicy k text a b Memory → AsksSome k text a b
-read_in_part kind.Flat text a b h = h.1
-read_in_part kind.Json text a b h = h
-
--- or over one owner more of a policy that was installed
-pub none_read : (o o' : Outside) (k : PolicyKind) (text : List ℕ) → Tells o o' o.maker o.maker → MadeSome o o' k text
-none_read o o' k text tells = record { asked = none_asked k text o.maker o'.maker tells.after_is; rest = tells.rest }
-
 -- ---- a policy that was installed before
 
 pub record_there : (H : History) (place : ℕ) (r : Record) → slice_get H place ≡ Some r → Contains H r

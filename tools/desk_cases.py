@@ -2,7 +2,7 @@
 import json
 
 import evidence as ev
-from cases import add, begin, passes, reactivate, refused, remove, replace, reply, session, state, stop
+from cases import GOOD, add, begin, passes, reactivate, refused, remove, replace, reply, session, state, stop
 from evidence import BOOT_AGGREGATE, POLICY
 from session_cases import B, MOST, R, S, bad, invalid
 
@@ -87,6 +87,9 @@ session("pick by moment, then by id", now(100), add("c", 1), add("a", 2), add("b
         now(3000), begin("a", "n4", 4, 2), due("b"), begin("b", "n5", 5, 3), due("c"), lose(4, "current state 5"),
         passes(5, "n5", "current state 5"), now(5000), due("c"), begin("c", "n6", 6, 1), due("b"))
 session("a finding is polled again 2,000 ms after its begin", now(1), S, B, now(7), R, now(2000), NONE_DUE, now(2001), due("a1"))
+# The row of losses that counts is the one since the last finding: after a pass there is none, whatever was lost before.
+session("the due moment counts the losses in a row", now(0), S, B, lose(1, "current state 4"), begin("a1", "n2", 2, 1),
+        passes(2, "n2", "current state 5"), now(1999), NONE_DUE, now(2000), due("a1"))
 session("a replacement makes an agent due at once", now(9), S, B, NONE_DUE, replace("a1", 2), due("a1"), begin("a1", "n2", 2, 2),
         NONE_DUE, lose(1, "stale state 3"), NONE_DUE, lose(2, "current state 4"), now(4009), due("a1"))
 session("a failed agent is not due", S, B, bad(1, "n1", "current state 7"), now(MOST), NONE_DUE, reactivate("a1", 2), due("a1"))
@@ -98,7 +101,7 @@ session("the moment of a begin counts, and not that of its end", now(10), S, B, 
         now(4_009), NONE_DUE, now(4_010), due("a1"))
 
 # ---- failures and their notices
-session("nonce and notice", S, B, reply(1, "n2", [BOOT_AGGREGATE], "invalid nonce current state 9"), notice(1, "a1", 1, "invalid nonce"),
+session("nonce and notice", S, B, reply(1, "n2", GOOD, "invalid nonce current state 9"), notice(1, "a1", 1, "invalid nonce"),
         refused("noticed 2", "nonotice 2"), noticed(1), NO_NOTICE)
 session("no notice", NO_NOTICE, refused("noticed 0", "nonotice 0"), refused("noticed 1", "nonotice 1"), S, B, R, NO_NOTICE)
 session("a late failure has no notice", S, B, replace("a1", 2), bad(1, "n1", "stale state 1"), NO_NOTICE)

@@ -41,7 +41,9 @@ def apart(name, *judged):
 # ---- what a policy allows
 session("a JSON policy of the usual members", added(FULL), B, passes(1, "n1", "current state 5"),
         replace("a1", 2, json.dumps(with_(), indent=2) + "\n", kind="json"), begin("a1", "n2", 2, 2), passes(2, "n2", "current state 5"))
-FORGED = Entry(UNLISTED.path, UNLISTED.digest, hash=b"\x01" * 20)
+# The first digit of its template hash is another.
+GENUINE = UNLISTED.template_hash()
+FORGED = Entry(UNLISTED.path, UNLISTED.digest, hash=bytes([GENUINE[0] ^ 0x10]) + GENUINE[1:])
 OPT = policy(excludes=["/opt/"])
 apart("an excluded path must be consistent", (OPT, UNLISTED, "pass 3"), (OPT, FORGED, "failed entry 2 inconsistent"))
 # A pattern excludes a path that it matches from the first byte on, also one whose digest is none of those that are known for it.

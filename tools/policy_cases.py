@@ -68,6 +68,12 @@ session("digests of a JSON policy", added(TWICE), B, passes(1, "n1", "current st
 session("what is no JSON policy", none("", "notjson"), none("{", "notjson"), none(POLICY, "notjson"), none(FULL + "x", "notjson"),
         none("[]", "kind policy"), none("7", "kind policy"), none("null", "kind policy"), none("{}", "missing digests"),
         none({"excludes": ["("], "keyrings": 1}, "missing digests"), refused("state a1", "noagent"))
+# Arrays and objects count alike, and so do those of a member that is not looked at.
+LISTS = {deep: "[" * deep + "]" * deep for deep in (126, 127, 128)}
+OBJECTS = {deep: '{"a":' * deep + "0" + "}" * deep for deep in (127, 128)}
+session("JSON nested 127 and 128 deep", none(LISTS[128], "notjson"), none(LISTS[127], "kind policy"), none(OBJECTS[128], "notjson"),
+        none(OBJECTS[127], "missing digests"), none('{"meta":%s}' % LISTS[127], "notjson"), none('{"meta":%s}' % LISTS[126], "missing digests"),
+        none('{"digests":{},"meta":%s}' % LISTS[127], "notjson"), added('{"digests":{},"meta":%s}' % LISTS[126]))
 session("JSON members of another kind", *(none(with_(digests=value), "kind digests") for value in ([], "", None, {"/a": "aa"}, {"/a": [1]})),
         *(none(with_(excludes=value), "kind excludes") for value in ({}, "/opt/", None, [["/opt/"]], ["/opt/", 1])),
         *(none(with_(kl_violations=value), "kind kl-violations") for value in (True, "Pass", "", None)))

@@ -2,8 +2,9 @@
 import json
 
 import evidence as ev
-from cases import GOOD, add, begin, passes, refused, replace, reply, session, state
+from cases import GOOD, add, begin, long_case, made, passes, refused, replace, reply, session, state
 from evidence import POLICY, UNLISTED, Entry
+from session_cases import lines_of
 
 FULL = ev.json_policy(GOOD)
 B = begin("a1", "n1", 1, 1)
@@ -97,6 +98,21 @@ session("the order of a JSON policy's faults",
         none({"digests": {}, "excludes": ["("], "kl-violations": 0, "keyrings": 1}, "kind kl-violations"),
         none({"digests": {}, "excludes": ["("], "kl-violations": "pass", "keyrings": 1}, "unsupported keyrings"),
         none({"digests": {}, "excludes": ["("]}, "syntax 0", mask="0x0"), refused(ev.add_line('{"digests":{}}', kind="json", mask="0x0"), "mask"))
+
+
+def short_paths(count, first="aa", more=""):
+    """A policy of so many distinct paths, of which `0` stands twice: `first` is the digest that counts for it."""
+    return '{"digests":{"0":["bb"],"0":["%s"]%s}%s}' % (first, "".join(f',"{n:x}":["aa"]' for n in range(1, count)), more)
+
+
+@long_case
+def most_json_paths():
+    """Too many paths come before a digest that is none, before the other members' faults, and before what the desk forbids."""
+    steps = [added(short_paths(262_144)), none(short_paths(262_144, "x"), "digest 0 0"),
+             none(short_paths(262_145, "x", ',"excludes":0'), "limit paths"),
+             refused(ev.replace_line(short_paths(262_145), kind="json"), "policy limit paths"), state("a1", 1, "START", 1, 0)]
+    return made("262,145 paths of a JSON policy", *lines_of(steps))
+
 
 # ---- replacements by either kind
 session("a JSON policy replaces a flat one", add("a1", 1), B, replace("a1", 2, policy(excludes=["/opt/"]), kind="json"),

@@ -14,7 +14,7 @@ import sys
 
 import appraisal_cases  # noqa: F401
 import desk_cases  # noqa: F401
-import policy_cases  # noqa: F401
+import policy_cases
 import registrar_cases  # noqa: F401
 import session_cases  # noqa: F401
 from cases import CASES, LONG
@@ -43,6 +43,7 @@ def files():
         if c.example:
             made[f"examples/{c.name}.script"] = c.script
             made[f"examples/{c.name}.printed"] = c.printed
+    made["examples/policy.json"] = policy_cases.EXAMPLE.encode()
     kept = stored_cases()
     made["crates/kl_cases/stdin"] = b"".join(f"== {c.key_faults} {c.words} {c.name}\n".encode() + c.script for c in kept)
     made["crates/kl_cases/stdout"] = b"".join(b"== %s\n%sstatus %d\n" % (c.name.encode(), c.printed, c.status) for c in kept)

@@ -127,10 +127,13 @@ session("two agents under one JSON policy", added(FULL), add("b1", 2, FULL, kind
 
 # ---- the example: excludes, a violation that passes, and a policy that is refused
 LOG = Entry("/srv/log/x", bytes(32), hash=bytes(20))
+# It is a file of its own too. A script's line has its very bytes, since it has neither a newline nor a backslash.
+EXAMPLE = policy(excludes=["/opt/"], kl_violations="pass")
+assert ev.escape_rest(EXAMPLE) == EXAMPLE
 session(
     "json",
     "# a policy as Keylime writes it: two known files, one directory that is left out, and violations that pass",
-    added(policy(excludes=["/opt/"], kl_violations="pass")), B,
+    added(EXAMPLE), B,
     reply(1, "n1", GOOD + [UNLISTED, LOG], "pass 4 current state 5"),
     "",
     "# what is left out is not asked for a digest, but must be consistent",

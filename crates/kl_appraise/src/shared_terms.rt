@@ -19,7 +19,7 @@ pub struct SharedTerms {
 impl Model for SharedTerms {
     ghost use Rattle.std.specs.Coded.{codes};
     ghost use Rattle.std.specs.Arc.{arc_value};
-    ghost use Rattle.kl_policy.specs.Digests.{digest_map_code};
+    ghost use Rattle.kl_digests.specs.Digests.{digest_map_code};
     ghost use Rattle.kl_appraise.specs.Terms.{TermsFields};
 
     ghost Value = { TermsFields };

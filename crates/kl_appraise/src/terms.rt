@@ -31,7 +31,7 @@ pub struct Terms {
 
 impl Model for Terms {
     ghost use Rattle.std.specs.Coded.{codes};
-    ghost use Rattle.kl_policy.specs.Digests.{digest_map_code};
+    ghost use Rattle.kl_digests.specs.Digests.{digest_map_code};
     ghost use Rattle.kl_appraise.specs.Terms.{TermsFields, AreTerms};
 
     ghost Value = { TermsFields };

@@ -70,7 +70,7 @@ impl Model for Book {
     ghost use Rattle.std.specs.Prelude.{vec_capacity};
     ghost use Rattle.std.specs.BTreeMap.{btree_map_len};
     ghost use Rattle.std.specs.Coded.{codes};
-    ghost use Rattle.kl_policy.specs.Digests.{digest_map_code};
+    ghost use Rattle.kl_digests.specs.Digests.{digest_map_code};
     ghost use Rattle.kl_history.specs.Records.{past_of};
     ghost use Rattle.kl_core.specs.Books.{BookFields};
     ghost use Rattle.kl_core.specs.Inner.Keeping.{IsBook};

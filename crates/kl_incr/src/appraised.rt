@@ -20,7 +20,7 @@ pub struct Appraised {
 
 impl Model for Appraised {
     ghost use Rattle.std.specs.Coded.{codes};
-    ghost use Rattle.kl_policy.specs.Digests.{digest_map_code};
+    ghost use Rattle.kl_digests.specs.Digests.{digest_map_code};
     ghost use Rattle.kl_incr.specs.Appraisal.{AppraisedFields, IsAppraisal};
 
     ghost Value = { AppraisedFields };

@@ -21,7 +21,7 @@ pub struct Ticket {
 
 impl Model for Ticket {
     ghost use Rattle.std.specs.Coded.{codes};
-    ghost use Rattle.kl_policy.specs.Digests.{digest_map_code};
+    ghost use Rattle.kl_digests.specs.Digests.{digest_map_code};
     ghost use Rattle.kl_incr.specs.Kept.{TicketFields, AreKept};
 
     ghost Value = { TicketFields };

@@ -4,7 +4,7 @@ use Rattle.std.specs.FinMap as finite_map
 use Rattle.std.specs.FinSet.{contains}
 use Rattle.kl_exclude.specs.Excludes.{any_excludes}
 use Rattle.kl_entry.specs.Entries.{EntryFields, is_violation, is_consistent}
-use Rattle.kl_policy.specs.Digests.{DigestSet}
+use Rattle.kl_digests.specs.Digests.{DigestSet}
 use Rattle.kl_policy.specs.PolicyFields.{PolicyFields}
 use Rattle.kl_policy.specs.Policy.{Allows, why_of, why_unlisted}
 use Rattle.kl_policy.specs.declared.why.Why.TheVariants.{Violation, Inconsistent, Digest}

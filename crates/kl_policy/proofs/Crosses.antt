@@ -2,22 +2,16 @@
 use denote.Param.Send.{IsSend, IsSync, sendable}
 use Rattle.std.proofs.Crossing.{crosses}
 use Rattle.std.proofs.MapsCrossing as maps
+use Rattle.kl_digests.proofs.Crosses.{digests_cross}
 use Rattle.kl_exclude.proofs.Crosses.{patterns_cross}
 use Rattle.kl_policy.specs.contracts.content.Content as Content
-use Rattle.kl_policy.specs.contracts.digests.DigestMap as DigestMap
 use Rattle.kl_policy.specs.contracts.policy.Policy as Policy
 
-map_send : IsSend (DigestMap.the_field).row
-map_send = search (maps.crosses, crosses, sendable) depth 60 fits 20000
-
-map_sync : IsSync (DigestMap.the_field).row
-map_sync = search (maps.crosses, crosses, sendable) depth 60 fits 20000
-
 content_send : IsSend (Content.the_field).row
-content_send = search (patterns_cross, map_send, maps.String-send, maps.crosses, crosses, sendable) depth 60 fits 20000
+content_send = search (patterns_cross, digests_cross, maps.String-send, maps.crosses, crosses, sendable) depth 60 fits 20000
 
 content_sync : IsSync (Content.the_field).row
-content_sync = search (patterns_cross, map_sync, maps.String-sync, maps.crosses, crosses, sendable) depth 60 fits 20000
+content_sync = search (patterns_cross, digests_cross, maps.String-sync, maps.crosses, crosses, sendable) depth 60 fits 20000
 
 content_row_send : IsSend Content.the_row
 content_row_send = search (content_send, sendable) depth 60 fits 20000

@@ -17,7 +17,7 @@ use Rattle.kl_exclude.specs.declared.fault.ExcludeFault.TheVariants.{Syntax, Too
 use Rattle.kl_json.specs.Reading.{Reads}
 use Rattle.kl_json.specs.declared.fault.JsonFault.TheVariants.{NotJson, Missing, Kind, Range, Memory as no_memory}
 use Rattle.kl_entry.specs.Lines.{IsFirstFailing}
-use Rattle.kl_policy.specs.Digests.{DigestMap, SpellsDigest}
+use Rattle.kl_digests.specs.Digests.{DigestMap, SpellsDigest}
 use Rattle.kl_policy.specs.Json.{Listed, texts_in, as_texts, listed_in, as_blank, with_path, map_of, IsDecoded, IsGood, IsFirstBadDigest, HasListing, HasParts, IsPartsFault, optional, read_or}
 use Rattle.kl_policy.specs.Inner.JsonParts.{Entry, AreTexts, SpellsValue, SpellsAll, IsCopyFault, IsTextsFault, IsListingFault, IsRestFault, IsParseFault, IsCompileFault}
 use Rattle.kl_policy.specs.Making.{IsJsonFault, IsOfPatterns, IsExcludeFault, AsksFront, Makes}

@@ -1,9 +1,5 @@
 pub mod Allowed
-pub mod DigestSets
-pub mod Packing
-pub mod Tables
 pub mod FlatLines
-pub mod Decoding
 pub mod Listing
 pub mod OnePolicy
 pub mod SamePolicy

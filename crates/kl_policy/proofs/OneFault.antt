@@ -17,7 +17,7 @@ use Rattle.kl_exclude.specs.declared.fault.ExcludeFault.TheVariants.{Syntax, Too
 use Rattle.kl_json.specs.Members.{member_as}
 use Rattle.kl_json.specs.Reading.{Reads, IsNotJson}
 use Rattle.kl_json.specs.declared.fault.JsonFault.TheVariants.{NotJson, Missing, Kind, Range, Memory as no_memory}
-use Rattle.kl_policy.specs.Digests.{DigestMap, SpellsDigest}
+use Rattle.kl_digests.specs.Digests.{DigestMap, SpellsDigest}
 use Rattle.kl_policy.specs.Flat.{ListsDigests, BreaksAt, IsFlatFault}
 use Rattle.kl_policy.specs.Json.{Listed, as_texts, as_listing, optional, IsDecoded, IsGood, IsShort, IsBlank, IsFirstBadDigest, IsUnsupported, IsKindFault, IsPartsFault, HasListing, HasPatterns, HasParts, HasSomeDigests, HasSomePatterns, HasSomeChoice}
 use Rattle.kl_policy.specs.Making.{IsJsonFault, IsNoPolicy, is_settled}

@@ -10,7 +10,7 @@ use Rattle.std.specs.FinSet.{from_list}
 use Rattle.std.specs.List.{AllZip}
 use Rattle.std.specs.Ordering.{nat_cmp, match_ordering, ordering_reverse, eq_by_cmp}
 use Rattle.serde_json.specs.Data.{Data, Members, no_members, member, put}
-use Rattle.kl_policy.specs.Digests.{DigestMap, DigestSet}
+use Rattle.kl_digests.specs.Digests.{DigestMap, DigestSet}
 use Rattle.kl_policy.specs.Json.{Listed, listed_in, IsDecoded, with_path, map_of, Decodes}
 use Rattle.kl_policy.specs.Inner.Filling.{SpellsAt, Spells, IsBefore, IsRising, Fills}
 

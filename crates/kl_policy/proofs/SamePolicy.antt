@@ -5,7 +5,7 @@ use Rattle.serde_json.specs.Data.{Data}
 use Rattle.hex.proofs.HexLemmas.{decode_of-same}
 use Rattle.kl_json.specs.Members.{member_as}
 use Rattle.kl_json.specs.Reading.{Reads}
-use Rattle.kl_policy.specs.Digests.{DigestMap, SpellsDigest}
+use Rattle.kl_digests.specs.Digests.{DigestMap, SpellsDigest}
 use Rattle.kl_policy.specs.PolicyFields.{PolicyFields}
 use Rattle.kl_policy.specs.Json.{Listed, as_listing, map_of, IsDecoded, Decodes, HasDigests, HasPatterns, HasChoice, HasParts}
 use Rattle.kl_policy.specs.Reading.{IsReading}

@@ -13,7 +13,7 @@ use Rattle.serde_json.specs.Find.{get, get_member}
 use Rattle.serde_json.specs.Read.{of_json, of_items}
 use Rattle.serde_json.specs.View.{members_view}
 use Rattle.serde_json.proofs.Views.{get_member-put, get_member-put_other}
-use Rattle.kl_policy.specs.Digests.{DigestMap, DigestSet, SpellsDigest}
+use Rattle.kl_digests.specs.Digests.{DigestMap, DigestSet, SpellsDigest}
 use Rattle.kl_policy.specs.Json.{texts_in, as_texts, as_choice, as_blank, as_listing, optional, read_or, HasPatterns, HasChoice, IsSupported, HasParts}
 use Rattle.kl_policy.specs.Inner.Filling.{SpellsTree, SpellsAt, Fills, IsSplit}
 use Rattle.kl_policy.specs.Inner.JsonParts.{Entry}

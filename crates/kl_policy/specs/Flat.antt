@@ -5,7 +5,7 @@ use Rattle.std.specs.Prelude.{◌≡◌, ℕ, ◌<◌, ◌≤◌, ◌++◌, ◌�
 use Rattle.std.specs.FinMap as finite_map
 use Rattle.std.specs.List.{AllZip}
 use Rattle.kl_entry.specs.Lines.{lines_of, IsFirstFailing}
-use Rattle.kl_policy.specs.Digests.{DigestMap, Collects, SpellsDigest}
+use Rattle.kl_digests.specs.Digests.{DigestMap, Collects, SpellsDigest}
 use Rattle.kl_policy.specs.PolicyFields.{PolicyFields}
 use Rattle.kl_policy.specs.declared.fault.Limit.TheVariants.{Paths}
 use Rattle.kl_policy.specs.declared.fault.PolicyFault.{PolicyFault}

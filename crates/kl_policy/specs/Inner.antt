@@ -1,5 +1,3 @@
 -- What private contracts and models alone cite.
 pub mod Filling
 pub mod JsonParts
-pub mod Packed
-pub mod Table

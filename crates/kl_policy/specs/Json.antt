@@ -9,7 +9,7 @@ use Rattle.serde_json.specs.Find.{get, as_str, as_array, as_object}
 use Rattle.kl_json.specs.Members.{member_as, IsMissing, IsOther}
 use Rattle.kl_json.specs.declared.fault.JsonFault.TheVariants.{NotJson, Missing, Kind, Range, Memory as no_memory}
 use Rattle.kl_entry.specs.Lines.{IsFirstFailing}
-use Rattle.kl_policy.specs.Digests.{DigestMap, SpellsDigest}
+use Rattle.kl_digests.specs.Digests.{DigestMap, SpellsDigest}
 use Rattle.kl_policy.specs.declared.fault.Limit.TheVariants.{Paths, Patterns, PatternBytes}
 use Rattle.kl_policy.specs.declared.fault.PolicyFault.{PolicyFault}
 use Rattle.kl_policy.specs.declared.fault.PolicyFault.TheVariants.{Json, Line, BadDigest, Unsupported, Limit as Over, Exclude, Memory}

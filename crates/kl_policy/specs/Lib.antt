@@ -1,4 +1,3 @@
-pub mod Digests
 pub mod Flat
 pub mod Json
 pub mod Policy

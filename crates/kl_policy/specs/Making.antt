@@ -7,7 +7,7 @@ use Rattle.kl_exclude.specs.declared.fault.ExcludeFault.{ExcludeFault}
 use Rattle.kl_exclude.specs.declared.fault.ExcludeFault.TheVariants.{Syntax, TooLarge, Memory as no_memory_left}
 use Rattle.kl_json.specs.Reading.{Reads, IsNotJson}
 use Rattle.kl_json.specs.declared.fault.JsonFault.TheVariants.{NotJson, Memory as no_memory}
-use Rattle.kl_policy.specs.Digests.{DigestMap}
+use Rattle.kl_digests.specs.Digests.{DigestMap}
 use Rattle.kl_policy.specs.Flat.{IsFlatFault}
 use Rattle.kl_policy.specs.Json.{HasParts, IsPartsFault}
 use Rattle.kl_policy.specs.declared.fault.PolicyFault.{PolicyFault}

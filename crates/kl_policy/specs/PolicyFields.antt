@@ -1,6 +1,6 @@
 -- What a policy is, for contracts.
 use Rattle.std.specs.Prelude.{ℕ, Bool, List}
-use Rattle.kl_policy.specs.Digests.{DigestMap}
+use Rattle.kl_digests.specs.Digests.{DigestMap}
 use Rattle.kl_states.specs.declared.policy_kind.PolicyKind.{PolicyKind}
 
 -- a runtime policy: its text, the form of that, the digests of each path, its exclude patterns, and whether violations pass

@@ -4,7 +4,7 @@ use Rattle.std.specs.FinMap as finite_map
 use Rattle.serde_json.specs.Data.{Data}
 use Rattle.kl_exclude.specs.Excludes.{IsPattern}
 use Rattle.kl_json.specs.Reading.{Reads}
-use Rattle.kl_policy.specs.Digests.{DigestMap}
+use Rattle.kl_digests.specs.Digests.{DigestMap}
 use Rattle.kl_policy.specs.Flat.{ListsDigests}
 use Rattle.kl_policy.specs.Json.{HasParts}
 use Rattle.kl_policy.specs.PolicyFields.{PolicyFields}

@@ -3,7 +3,7 @@
 ghost use Rattle.std.specs.Prelude.{◌≡◌, ◌↔◌, string_bytes, IsTrue};
 ghost use Rattle.kl_policy.specs.Reading.{IsPolicy};
 
-use crate::digests::DigestMap;
+use kl_digests::DigestMap;
 use kl_exclude::Patterns;
 use kl_states::PolicyKind;
 use std::marker::Model;
@@ -21,7 +21,7 @@ pub struct Content {
 impl Model for Content {
     ghost use Rattle.std.specs.Prelude.{string_bytes};
     ghost use Rattle.std.specs.Coded.{codes};
-    ghost use Rattle.kl_policy.specs.Digests.{digest_map_code};
+    ghost use Rattle.kl_digests.specs.Digests.{digest_map_code};
     ghost use Rattle.kl_policy.specs.PolicyFields.{PolicyFields};
     ghost use Rattle.kl_policy.specs.Reading.{IsReading};
 

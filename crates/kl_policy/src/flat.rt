@@ -2,16 +2,16 @@
 
 ghost use Rattle.std.specs.Prelude.{◌≡◌, ◌≤◌, ℕ, [], false, string_bytes, IfOk, IfErr};
 ghost use Rattle.std.specs.FinMap as finite_map;
-ghost use Rattle.kl_policy.specs.Digests.{DigestMap};
+ghost use Rattle.kl_digests.specs.Digests.{DigestMap};
 ghost use Rattle.kl_policy.specs.Flat.{ListsDigests, BreaksAt, IsFlatFault, IsReadAs, IsRefusedAt};
 ghost use Rattle.kl_entry.specs.Lines.{lines_of};
 
 use crate::content::Content;
-use crate::digests::DigestMap;
 use crate::fault::{Limit, PolicyFault};
 use crate::limits::MOST_PATHS;
 use crate::line::read_line;
 use crate::policy::Policy;
+use kl_digests::DigestMap;
 use kl_entry::lines;
 use kl_exclude::Patterns;
 use kl_states::PolicyKind;

@@ -6,15 +6,14 @@ ghost use Rattle.std.specs.List.{AllZip};
 ghost use Rattle.serde_json.specs.Data.{object};
 ghost use Rattle.serde_json.specs.Find.{get, as_object, as_str};
 ghost use Rattle.serde_json.specs.View.{view, members_view};
-ghost use Rattle.kl_policy.specs.Digests.{SpellsDigest};
+ghost use Rattle.kl_digests.specs.Digests.{SpellsDigest};
 ghost use Rattle.kl_policy.specs.Json.{Listed, as_texts, listed_in, Decodes, HasDigests, IsGood, IsPartsFault};
 ghost use Rattle.kl_policy.specs.Inner.JsonParts.{IsListingFault, IsTextsFault};
 
-use crate::digests::{DigestMap, KnownDigests};
 use crate::fault::{Limit, PolicyFault};
 use crate::json_members::texts_of;
 use crate::limits::MOST_PATHS;
-use crate::spelling::spelled_digest;
+use kl_digests::{DigestMap, KnownDigests, spelled_digest};
 use kl_entry::FileDigest;
 use kl_json::{JsonFault, Map, Value};
 use std::alloc::Global;

@@ -8,10 +8,9 @@ ghost use Rattle.serde_json.specs.Data.{Data, Members, object, no_members};
 ghost use Rattle.serde_json.specs.Read.{of_json, of_members};
 ghost use Rattle.kl_policy.specs.Inner.Filling.{SpellsTree, SpellsAt, Fills};
 
-use crate::digests::{DigestMap, KnownDigests};
 use crate::limits::MOST_PATHS;
-use crate::spelling::spelled_digest;
 use kl_base::Memory;
+use kl_digests::{DigestMap, KnownDigests, spelled_digest};
 use kl_entry::FileDigest;
 use kl_json::Tree;
 use std::alloc::Global;

@@ -8,11 +8,11 @@ ghost use Rattle.kl_json.specs.Reading.{Reads};
 ghost use Rattle.kl_policy.specs.Json.{HasParts};
 ghost use Rattle.kl_policy.specs.Inner.Filling.{IsSplit};
 
-use crate::digests::DigestMap;
 use crate::fault::PolicyFault;
 use crate::json_listing::listing_of;
 use crate::json_members::{Rest, rest_of};
 use kl_base::Memory;
+use kl_digests::DigestMap;
 use kl_json::{Map, Scratch, Tree, Value, owned, tree_of};
 use std::alloc::Global;
 

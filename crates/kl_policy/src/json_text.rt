@@ -12,13 +12,13 @@ ghost use Rattle.kl_policy.specs.Reading.{IsJson, IsPolicy};
 ghost use Rattle.kl_policy.specs.Inner.JsonParts.{IsParseFault, IsCompileFault};
 
 use crate::content::Content;
-use crate::digests::DigestMap;
 use crate::fault::PolicyFault;
 use crate::json_digests::digests_of;
 use crate::json_members::rest_of;
 use crate::json_split::{Said, said_over};
 use crate::policy::Policy;
 use kl_base::Memory;
+use kl_digests::DigestMap;
 use kl_exclude::{ExcludeFault, PatternMaker, Patterns, compile};
 use kl_json::{JsonFault, Value, parse};
 use kl_states::PolicyKind;

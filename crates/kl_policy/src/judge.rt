@@ -25,7 +25,7 @@ pub struct Judge<'a> {
 impl<'a> Model for Judge<'a> {
     ghost use Rattle.std.specs.Prelude.{◌≡◌, IfSome};
     ghost use Rattle.std.specs.Coded.{codes};
-    ghost use Rattle.kl_policy.specs.Digests.{digest_map_code};
+    ghost use Rattle.kl_digests.specs.Digests.{digest_map_code};
     ghost use Rattle.kl_policy.specs.PolicyFields.{PolicyFields};
 
     ghost Value = { PolicyFields };

@@ -5,7 +5,6 @@
 #![tactic(auto)]
 
 mod content;
-mod digests;
 mod fault;
 mod flat;
 mod json_digests;
@@ -16,10 +15,8 @@ mod json_text;
 mod judge;
 mod limits;
 mod line;
-mod packed;
 mod policy;
 mod reading;
-mod spelling;
 mod threads;
 mod unique;
 mod why;

@@ -3,7 +3,7 @@
 ghost use Rattle.std.specs.Prelude.{ℕ, List, IfSome, IfNone};
 ghost use Rattle.kl_policy.specs.Flat.{FlatLine};
 
-use crate::spelling::spelled_digest;
+use kl_digests::spelled_digest;
 use kl_entry::FileDigest;
 
 /// What a line lists: a path, and a digest that a file there may have.

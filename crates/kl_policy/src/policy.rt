@@ -27,7 +27,7 @@ pub struct Policy {
 impl Model for Policy {
     ghost use Rattle.std.specs.Coded.{codes};
     ghost use Rattle.std.specs.Arc.{arc_value};
-    ghost use Rattle.kl_policy.specs.Digests.{digest_map_code};
+    ghost use Rattle.kl_digests.specs.Digests.{digest_map_code};
     ghost use Rattle.kl_policy.specs.PolicyFields.{PolicyFields};
 
     ghost Value = { PolicyFields };

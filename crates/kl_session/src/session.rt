@@ -35,7 +35,7 @@ pub struct Session {
 
 impl Model for Session {
     ghost use Rattle.std.specs.Coded.{codes};
-    ghost use Rattle.kl_policy.specs.Digests.{digest_map_code};
+    ghost use Rattle.kl_digests.specs.Digests.{digest_map_code};
     ghost use Rattle.kl_session.specs.Calls.{Kept};
 
     ghost Value = { Kept };

@@ -43,7 +43,7 @@ pub struct Verifier {
 
 impl Model for Verifier {
     ghost use Rattle.std.specs.Coded.{codes};
-    ghost use Rattle.kl_policy.specs.Digests.{digest_map_code};
+    ghost use Rattle.kl_digests.specs.Digests.{digest_map_code};
     ghost use Rattle.kl_core.specs.Books.{past};
     ghost use Rattle.kl_session.specs.Calls.{VerifierFields, verifier_of};
     ghost use Rattle.kl_session.specs.Inner.Tickets.{AreKept};

@@ -1,4 +1,5 @@
 //! Expected values are the examples of FIPS 180-4, and extensions computed by Python's hashlib.
+use crate::common::shared;
 use kl_bank::{Bank, Digest, Hasher};
 use std::test::Fail;
 
@@ -90,8 +91,6 @@ fn a_digest_has_the_size_of_its_bank(rt: HostRuntime) {
         assert_eq!(rt; bank.zeros().as_slice().len(), size);
     }
 }
-
-fn shared<T: Sync + Send>(_value: &T) {}
 
 #[test]
 fn threads_may_share_banks_and_digests() {

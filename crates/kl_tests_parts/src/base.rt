@@ -11,7 +11,7 @@ fn short_bytes_fill_their_room_or_none_of_it(rt: HostRuntime) {
 }
 
 #[test]
-fn what_is_printed(rt: HostRuntime) -> Result<(), Fail> {
+fn short_bytes_and_want_of_memory_are_printed(rt: HostRuntime) -> Result<(), Fail> {
     let short: Short<3> = Short::new(&[0, 0xAB]);
     let shown = format!(in rt.alloc(); "{Memory} {short:?}")?;
     assert_eq!(rt; shown.as_str(), "out of memory 00ab");

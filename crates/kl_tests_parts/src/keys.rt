@@ -1,5 +1,5 @@
+use crate::common::agent_of;
 use kl_keys::*;
-use kl_states::AgentId;
 use sealings::{SEALINGS, Sealing};
 use std::alloc::Global;
 use std::test::*;
@@ -130,9 +130,7 @@ const TAG: &str =
 
 #[test]
 fn a_tag_is_read_in_either_case(rt: HostRuntime) -> Result<(), Fail> {
-    let Some(id) = AgentId::from_bytes(b"a1") else {
-        return Err(Fail::from("a letter and a digit name an agent"));
-    };
+    let id = agent_of("a1")?;
     let upper = TAG.to_ascii_uppercase(rt.alloc())?;
     let cases: [(u8, &str, bool); 7] = [
         (2, TAG, true),

@@ -1,4 +1,5 @@
-//! Unit tests of the crates below a policy, from `kl_base` to `kl_script`: one module a crate.
+//! Unit tests of the crates below a policy, from `kl_base` to `kl_script`: one module a crate; `common` is what several
+//! of them use.
 //!
 //! They stand above the crates they test, since a gate that tests a crate proves its functions once more.
 #![tactic(auto)]
@@ -9,6 +10,8 @@ mod attest;
 mod bank;
 #[cfg(test)]
 mod base;
+#[cfg(test)]
+mod common;
 #[cfg(test)]
 mod entry;
 #[cfg(test)]

@@ -1,5 +1,6 @@
+use crate::common::agent_of;
 use kl_notice::*;
-use kl_states::{AgentId, EntryCause, FailedCause, Verdict};
+use kl_states::{EntryCause, FailedCause, Verdict};
 use std::test::*;
 
 const TEXTS: [(FailWhy, &str); 3] = [
@@ -17,16 +18,9 @@ const TEXTS: [(FailWhy, &str); 3] = [
     ),
 ];
 
-fn agent(name: &[u8]) -> Result<AgentId, Fail> {
-    match AgentId::from_bytes(name) {
-        Some(agent) => Ok(agent),
-        None => Err(Fail::from("these bytes name an agent")),
-    }
-}
-
 #[test]
 fn a_notice_is_one_object_on_one_line(rt: HostRuntime) -> Result<(), Fail> {
-    let agent = agent(b"db.example_1")?;
+    let agent = agent_of("db.example_1")?;
     for (why, expected) in TEXTS {
         let notice = Notice {
             number: 7,
@@ -42,7 +36,7 @@ fn a_notice_is_one_object_on_one_line(rt: HostRuntime) -> Result<(), Fail> {
 
 #[test]
 fn notices_are_delivered_in_order_and_once(rt: HostRuntime) -> Result<(), Fail> {
-    let agent = agent(b"web-1")?;
+    let agent = agent_of("web-1")?;
     let mut outbox = Outbox::new(rt.alloc())?;
     assert!(rt; outbox.next().is_none() && !outbox.mark_delivered(1));
     outbox.reserve(rt.alloc(), 2)?;

@@ -2,6 +2,7 @@
 ghost use Rattle.std.specs.Prelude.{◌≡◌, ◌≤◌, length, IfOk};
 ghost use Rattle.kl_bank.specs.Banks.{size_of};
 
+use crate::common::shared;
 use kl_bank::{Bank, Digest};
 use kl_entry::{Entry, EntryData, FileDigest};
 use kl_pcr::*;
@@ -182,8 +183,6 @@ fn a_static_pcr_allows_something(rt: HostRuntime) {
     let nothing = [Static { pcr: 4, allowed }];
     assert!(rt; statics_ok(Bank::Sha1, 1 << 4, &[]) && !statics_ok(Bank::Sha1, 1 << 4, &nothing));
 }
-
-fn shared<T: Sync + Send>(_value: &T) {}
 
 #[test]
 fn threads_may_share_static_pcrs(rt: HostRuntime) {

@@ -1,3 +1,4 @@
+use crate::common::shared;
 use kl_quote::*;
 use std::alloc::{AllocError, Global};
 use std::test::*;
@@ -120,11 +121,9 @@ fn evidence_has_at_most_16_mib(rt: HostRuntime) -> Result<(), Fail> {
     Ok(())
 }
 
-fn shared<T: Sync + Send>() {}
-
 #[test]
-fn threads_may_share_them() {
-    shared::<Quote>();
-    shared::<QuoteFault>();
-    shared::<Evidence>();
+fn threads_may_share_quotes_their_faults_and_evidence(rt: HostRuntime) -> Result<(), Fail> {
+    shared(&read_quote(rt.alloc(), "r::"));
+    shared(&evidence(rt.alloc(), 0)?);
+    Ok(())
 }

@@ -1,6 +1,6 @@
+use crate::common::agent_of;
 use kl_keys::MacKeys;
 use kl_registrar::*;
-use kl_states::AgentId;
 use std::alloc::Global;
 use std::test::*;
 
@@ -17,13 +17,6 @@ const BLOBS: [&str; 2] = [
     "932f385cad13599d9cbc1b7cbd11fc1e2db1cb061039c15a38a90484db32a016ae158850c97e8605c68ae2186d40c0605db16fc5d2c52a74af61573d3530fe09",
 ];
 
-fn id_of(name: &str) -> Result<AgentId, Fail> {
-    match AgentId::from_bytes(name.as_bytes()) {
-        Some(id) => Ok(id),
-        None => Err(Fail::from("no name")),
-    }
-}
-
 /// The blob of 32 such bytes for the keys `e1` and `k1`, in digits.
 fn registered(
     alloc: Global,
@@ -32,7 +25,7 @@ fn registered(
     byte: u8,
     keys: &mut MacKeys,
 ) -> Result<Result<String, RegFault>, Fail> {
-    let id = id_of(name)?;
+    let id = agent_of(name)?;
     match registrar.register(alloc, id, b"e1", b"k1", "h:9002", [byte; 32], keys) {
         Ok(blob) => Ok(Ok(hex::encode(alloc, &blob)?)),
         Err(fault) => Ok(Err(fault)),
@@ -43,7 +36,7 @@ fn registered(
 fn an_agent_is_active_by_the_tag_under_its_latest_secret(rt: HostRuntime) -> Result<(), Fail> {
     let mut keys = MacKeys::new(rt.alloc(), &[])?;
     let mut registrar = Registrar::new(rt.alloc())?;
-    let a1 = id_of("a1")?;
+    let a1 = agent_of("a1")?;
     for (byte, blob) in [(1, BLOBS[0]), (2, BLOBS[1])] {
         let given = registered(rt.alloc(), &mut registrar, "a1", byte, &mut keys)?;
         assert!(rt; given.is_ok_and(|text| text.as_str() == blob));
@@ -73,7 +66,7 @@ fn an_agent_is_active_by_the_tag_under_its_latest_secret(rt: HostRuntime) -> Res
 fn a_refused_register_leaves_the_record(rt: HostRuntime) -> Result<(), Fail> {
     let mut keys = MacKeys::new(rt.alloc(), &[2])?;
     let mut registrar = Registrar::new(rt.alloc())?;
-    let a1 = id_of("a1")?;
+    let a1 = agent_of("a1")?;
     drop(registered(rt.alloc(), &mut registrar, "a1", 1, &mut keys)?);
     let answer = registrar.activate(&a1, FIRST);
     let refused = registered(rt.alloc(), &mut registrar, "a1", 2, &mut keys)?;
@@ -92,7 +85,7 @@ fn active_agents_are_listed_in_the_order_of_their_names(rt: HostRuntime) -> Resu
     let mut registrar = Registrar::new(rt.alloc())?;
     for name in ["b", "a1", "a", "Z", "_"] {
         drop(registered(rt.alloc(), &mut registrar, name, 2, &mut keys)?);
-        let id = id_of(name)?;
+        let id = agent_of(name)?;
         let tag = kl_keys::tag(&[2; 32], &id);
         let text = hex::encode(rt.alloc(), &tag)?;
         let answer = if name == "_" {
@@ -102,8 +95,8 @@ fn active_agents_are_listed_in_the_order_of_their_names(rt: HostRuntime) -> Resu
         };
         assert!(rt; answer.is_ok(), "{name}");
     }
-    registrar.remove(&id_of("a")?)?;
-    assert!(rt; registrar.remove(&id_of("a")?) == Err(RegFault::NoAgent));
+    registrar.remove(&agent_of("a")?)?;
+    assert!(rt; registrar.remove(&agent_of("a")?) == Err(RegFault::NoAgent));
     let ids = registrar.list(rt.alloc())?;
     let names = ["Z", "a1", "b"];
     assert!(rt; ids.len() == names.len());
@@ -125,7 +118,7 @@ fn a_registrar_has_at_most_1024_other_records(rt: HostRuntime) -> Result<(), Fai
     let other = registered(rt.alloc(), &mut registrar, "z", 1, &mut keys)?;
     let again = registered(rt.alloc(), &mut registrar, "g7", 2, &mut keys)?;
     assert!(rt; other == Err(RegFault::Full) && again.is_ok());
-    registrar.remove(&id_of("g7")?)?;
+    registrar.remove(&agent_of("g7")?)?;
     let now = registered(rt.alloc(), &mut registrar, "z", 1, &mut keys)?;
     assert!(rt; now.is_ok());
     one_activation();
@@ -134,7 +127,7 @@ fn a_registrar_has_at_most_1024_other_records(rt: HostRuntime) -> Result<(), Fai
 }
 
 #[test]
-fn what_is_printed(rt: HostRuntime) -> Result<(), Fail> {
+fn each_fault_is_printed(rt: HostRuntime) -> Result<(), Fail> {
     let cases = [
         (RegFault::Full, "full"),
         (RegFault::KeysFault, "keys"),

@@ -1,5 +1,5 @@
+use crate::common::agent_of;
 use kl_shares::*;
-use kl_states::AgentId;
 use std::test::*;
 
 /// The tag of `a1` under 32 bytes 0x33, by Python's `hmac`.
@@ -13,9 +13,7 @@ const OTHER: &str =
 #[test]
 fn a_key_opens_by_both_shares_and_the_tag_under_it(rt: HostRuntime) -> Result<(), Fail> {
     split_keys();
-    let Some(id) = AgentId::from_bytes(b"a1") else {
-        return Err(Fail::from("a letter and a digit name an agent"));
-    };
+    let id = agent_of("a1")?;
     let (key, v) = ([0x33; 32], [0x22; 32]);
     let u = split(&key, &v);
     assert!(rt; u == [0x11; 32] && join(&u, &v) == key);

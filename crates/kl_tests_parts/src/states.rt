@@ -1,3 +1,4 @@
+use crate::common::shared;
 use kl_states::*;
 use std::alloc::Global;
 use std::test::*;
@@ -227,8 +228,6 @@ fn texts_and_blobs_give_back_what_they_hold(rt: HostRuntime) -> Result<(), Fail>
     assert!(rt; blob.into_vec().as_slice() == [1, 0, 255].as_slice());
     Ok(())
 }
-
-fn shared<T: Sync + Send>(_value: &T) {}
 
 #[test]
 fn threads_may_share_names_texts_and_verdicts(rt: HostRuntime) {

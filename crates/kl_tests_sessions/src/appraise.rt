@@ -4,9 +4,7 @@
 ghost use Rattle.std.specs.Prelude.{◌≡◌, ◌≤◌, IfOk, IfSome};
 ghost use Rattle.kl_appraise.specs.Kept.{IsKept};
 
-mod bytes;
-
-use bytes::*;
+use crate::bytes::*;
 use kl_appraise::*;
 use kl_bank::Bank;
 use kl_keys::MacKeys;

@@ -1,13 +1,12 @@
 //! What no clause says and no stored script plays: that calls are done with ample memory up to the limits of a book, and that a
 //! ticket or a share of other values ends nothing.
 
-mod bytes;
 mod limits;
 mod made;
 mod shares;
 mod tickets;
 
-use self::bytes::POLICY;
+use crate::bytes::POLICY;
 use kl_appraise::{Terms, TermsFault};
 use kl_bank::Bank;
 use kl_core::*;

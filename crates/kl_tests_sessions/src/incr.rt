@@ -2,9 +2,7 @@
 
 ghost use Rattle.std.specs.Prelude.{◌≡◌, ◌≤◌};
 
-mod bytes;
-
-use bytes::*;
+use crate::bytes::*;
 use kl_appraise::{SharedTerms, Terms};
 use kl_bank::Bank;
 use kl_incr::*;
@@ -84,7 +82,12 @@ fn evidence_is_appraised_and_a_key_fault_gives_the_ticket_back(
     let no_form = Outcome::Verdict(Verdict::Invalid(InvalidCause::Form(0)));
     for (quote, list, fault, wanted) in [
         (QUOTE, LIST, 2, Ok((pass, 2, true))),
-        (QUOTE_UNLISTED, LIST_UNLISTED, 2, Ok((unknown, 0, true))),
+        (
+            QUOTE_UNLISTED,
+            WHOLE_LIST_UNLISTED,
+            2,
+            Ok((unknown, 0, true)),
+        ),
         ("", LIST, 1, Ok((no_form, 0, false))),
         (QUOTE, LIST, 1, Err((7, DropWhy::Keys))),
     ] {

@@ -11,7 +11,7 @@ use Rattle.json.specs.declared.value.Value.{Value as Tree}
 use Rattle.serde_json.specs.Data.{Data, object, Members, no_members, member}
 use Rattle.serde_json.specs.Find.{get_member}
 use Rattle.serde_json.specs.View.{members_view}
-use Rattle.kl_policy.specs.Digests.{DigestMap, SpellsDigest}
+use Rattle.kl_digests.specs.Digests.{DigestMap, SpellsDigest}
 use Rattle.kl_policy.specs.Json.{Listed, as_texts, map_of}
 use Rattle.kl_policy.specs.Inner.JsonParts.{Entry}
 

@@ -12,7 +12,7 @@ use Rattle.kl_json.specs.Reading.{IsNotJson}
 use Rattle.kl_json.specs.declared.fault.JsonFault.TheVariants.{NotJson}
 use Rattle.kl_entry.specs.Lines.{IsFirstFailing}
 use Rattle.kl_policy.specs.Making.{IsExcludeFault, AsksFront}
-use Rattle.kl_policy.specs.Digests.{SpellsDigest}
+use Rattle.kl_digests.specs.Digests.{SpellsDigest}
 use Rattle.kl_policy.specs.Json.{Listed, as_texts, IsGood, IsFirstBadDigest, IsPartsFault, IsShort, HasSomeDigests}
 use Rattle.kl_policy.specs.declared.fault.Limit.TheVariants.{PatternBytes}
 use Rattle.kl_policy.specs.declared.fault.PolicyFault.{PolicyFault}

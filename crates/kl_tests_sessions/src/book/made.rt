@@ -2,9 +2,9 @@
 
 ghost use Rattle.std.specs.Prelude.{◌≡◌, ◌≤◌};
 
-use super::bytes::{LIST, POLICY};
 use super::tickets::dropped;
 use super::*;
+use crate::bytes::{LIST, POLICY};
 use kl_incr::appraise_from;
 use kl_keys::{Keys, MacKeys};
 use kl_pcr::Steps;
@@ -127,6 +127,18 @@ pub fn withdrawn(book: &mut Book, share: Share) -> Option<Op> {
             None
         },
     }
+}
+
+/// Whether a share is of these values.
+pub fn is_made_so(share: &Share, made: &Made) -> Result<bool, Fail> {
+    let numbers = (share.number(), share.generation(), share.poll());
+    Ok(
+        numbers == (made.release, made.generation, made.poll)
+            && share.agent() == agent(made.agent)?
+            && *share.v() == [made.v; 32]
+            && share.public() == made.public
+            && share.contact() == made.contact,
+    )
 }
 
 /// The share of the release of the wanted number, the deliveries before it withdrawn, and the book that made it.

@@ -1,8 +1,8 @@
-//! A share of other values settles nothing.
+//! A share of other values settles nothing; one of the same values, which another book made, settles as its own does.
 
-use super::bytes::{OTHER_QUOTE, QUOTE};
-use super::made::{Made, made_by, withdrawn};
+use super::made::{Made, is_made_so, made_by, withdrawn};
 use super::*;
+use crate::bytes::{OTHER_QUOTE, QUOTE};
 use kl_states::Op;
 
 /// How the release was made that is to be settled.
@@ -51,7 +51,7 @@ const SHARES: [(Made, Option<Op>); 9] = [
 ];
 
 #[test]
-fn a_share_of_other_values_settles_nothing_and_its_own_settles_once(
+fn a_share_of_other_values_settles_nothing_and_an_equal_one_settles_once(
     rt: HostRuntime,
 ) -> Result<(), Fail> {
     let alloc = rt.alloc();
@@ -59,7 +59,9 @@ fn a_share_of_other_values_settles_nothing_and_its_own_settles_once(
     own.discard();
     for (made, op) in SHARES {
         let (_other, share) = made_by(alloc, &made)?;
-        assert!(rt; withdrawn(&mut book, share) == op);
+        let made_so = is_made_so(&share, &made);
+        let settled = withdrawn(&mut book, share);
+        assert!(rt; made_so? && settled == op);
     }
     Ok(())
 }

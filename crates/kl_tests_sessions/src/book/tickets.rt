@@ -1,4 +1,4 @@
-//! A ticket of other values closes nothing.
+//! A ticket of other values closes nothing; one of the same values, which no book gave, closes as its own does.
 
 use super::*;
 use kl_appraise::SharedTerms;
@@ -43,7 +43,7 @@ pub fn dropped(book: &mut Book, ticket: Ticket) -> Option<Op> {
 }
 
 #[test]
-fn a_ticket_of_other_values_closes_nothing_and_its_own_closes_once(
+fn a_ticket_of_other_values_closes_nothing_and_an_equal_one_closes_once(
     rt: HostRuntime,
 ) -> Result<(), Fail> {
     let alloc = rt.alloc();

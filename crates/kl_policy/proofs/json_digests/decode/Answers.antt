@@ -3,7 +3,7 @@ use Rattle.std.proofs.Common.{◌≡◌, ◌+◌, ◌++◌, ◌∷◌, [], List,
 use Rattle.std.proofs.lemmas.Slice.Zip.{all_zipped_more}
 use Rattle.std.specs.FinMap as finite_map
 use Rattle.serde_json.specs.View.{view, members_view}
-use Rattle.kl_policy.specs.Digests.{DigestMap, DigestSet}
+use Rattle.kl_digests.specs.Digests.{DigestMap, DigestSet}
 use Rattle.kl_policy.specs.Json.{Listed, as_texts, listed_in, map_of, IsDecoded}
 use Rattle.kl_policy.specs.Inner.JsonParts.{Entry, SpellsAll, IsListingFault}
 use Rattle.kl_policy.proofs.JsonFacts.{read_entry, are_members, some_is, member_texts, listing_fault, decoded_member, zip_both, map_push}

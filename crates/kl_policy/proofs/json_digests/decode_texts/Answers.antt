@@ -8,7 +8,7 @@ use Rattle.serde_json.specs.Find.{as_str}
 use Rattle.serde_json.specs.View.{view}
 use Rattle.serde_json.specs.declared.value.Value.{Value}
 use Rattle.kl_entry.specs.Lines.{IsFirstFailing}
-use Rattle.kl_policy.specs.Digests.{DigestSet, SpellsDigest}
+use Rattle.kl_digests.specs.Digests.{DigestSet, SpellsDigest}
 use Rattle.kl_policy.specs.Json.{IsGood}
 use Rattle.kl_policy.specs.Inner.JsonParts.{AreTexts, SpellsValue}
 use Rattle.kl_policy.proofs.JsonFacts.{same_texts, first_unmade, zip_both, good_value, is_good, set_push}

@@ -4,7 +4,7 @@ use Rattle.std.proofs.lemmas.List.{take_all, take_more}
 use Rattle.std.proofs.lemmas.Slice.Zip.{all_zipped_more}
 use Rattle.std.specs.FinSet.{insert}
 use Rattle.std.specs.List.{AllZip}
-use Rattle.kl_policy.specs.Digests.{DigestSet}
+use Rattle.kl_digests.specs.Digests.{DigestSet}
 use Rattle.kl_policy.specs.Inner.Filling.{SpellsTree}
 use Rattle.kl_policy.proofs.JsonFacts.{set_push}
 use Rattle.kl_policy.proofs.json_listing.spelled.Goals as goal

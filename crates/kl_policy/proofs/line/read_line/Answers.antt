@@ -2,7 +2,7 @@
 use Rattle.std.proofs.Common.{◌≡◌, ℕ, List, length, Some, None, sym, subst, ap, ◌∙◌, arith, lit<, eqb-true}
 use Rattle.std.proofs.lemmas.Str.Pattern.{strip_prefix_char}
 use lib.Utf8.{encode}
-use Rattle.kl_policy.specs.Digests.{SpellsDigest}
+use Rattle.kl_digests.specs.Digests.{SpellsDigest}
 use Rattle.kl_policy.proofs.FlatLines.{if_none, cut_at_space, same_tail}
 use Rattle.kl_policy.proofs.line.read_line.Goals as goal
 

@@ -1,22 +1,19 @@
 -- The passes and the releases of legal histories: whose evidence a pass is, that a poll passes once, and what the records of an
 -- agent say of a release.
-use Rattle.std.proofs.Common.{◌≡◌, ℕ, Bool, true, false, not, cond, ◌||◌, List, [], ◌∷◌, Option, Some, None, ◌⊎◌, inl, inr, refl, ap, sym, ◌∙◌, subst, eq-eqb}
-use Rattle.std.proofs.lemmas.Bool.{cond-true, cond-false, cases_eq, ne_eqb, eqb-true, both_ways, false≢true}
+use Rattle.std.proofs.Common.{◌≡◌, ℕ, Bool, true, false, cond, List, [], ◌∷◌, Some, inl, inr, refl, ap, sym, ◌∙◌, subst, eq-eqb}
+use Rattle.std.proofs.lemmas.Bool.{cond-false, cases_eq, ne_eqb, eqb-true, both_ways}
 use Rattle.std.proofs.lemmas.Option.{same_Some, none-some}
 use lib.Dec.{eqb}
 use Rattle.kl_quote.specs.declared.evidence.Evidence.{Evidence}
 use Rattle.kl_states.specs.declared.verdict.Verdict.{Verdict as AnyVerdict}
 use Rattle.kl_states.specs.declared.verdict.Verdict.TheVariants.{Pass, Failed, Invalid}
-use Rattle.kl_states.specs.declared.outcome.Outcome.{Outcome}
-use Rattle.kl_states.specs.declared.outcome.Outcome.TheVariants.{Arrived, Missed, Withdrawn}
 use Rattle.kl_appraise.specs.declared.judged.Boot.{Boot}
 use Rattle.kl_history.specs.declared.record.Record.{Record}
 use Rattle.kl_history.specs.declared.record.Record.TheVariants.{Install, Begin, Verdict, Restart, Lost, Dropped, Release, Settled, Stop, Remove}
-use Rattle.kl_history.specs.declared.record.InstallWhy.TheVariants.{Add, Replace, Reactivate}
-use Rattle.kl_history.specs.Records.{Past, Handing, handing_of, closes, is_open, belongs, own, is_release_of}
+use Rattle.kl_history.specs.Records.{Past, is_open, belongs, own}
 use Rattle.kl_history.specs.LookBacks.{Passing, last_pass}
 use Rattle.kl_history.specs.Accepted.{SignsBoot}
-use Rattle.kl_history.specs.States.{handed_for, PassedUnder, HasReached}
+use Rattle.kl_history.specs.States.{PassedUnder}
 use Rattle.kl_history.specs.Legal.{IsLegalPast, Row}
 use Rattle.kl_history.proofs.Places.{Stands, here, earlier, newest_or}
 use Rattle.kl_history.proofs.Numbers.{stays_closed, closed_once}

@@ -1,5 +1,5 @@
 -- The notices that are posted are those of the records.
-use Rattle.std.proofs.Common.{◌≡◌, ℕ, ◌+◌, ◌≤◌, Bool, true, false, cond, ◌&&◌, List, [], ◌∷◌, ◌++◌, Option, Some, None, refl, ap, sym, ◌∙◌, subst, arith}
+use Rattle.std.proofs.Common.{◌≡◌, ℕ, ◌+◌, ◌≤◌, Bool, true, false, cond, ◌&&◌, List, [], ◌∷◌, ◌++◌, Option, Some, None, refl, ap, sym, ◌∙◌, subst}
 use Rattle.std.specs.Prelude.{is_some}
 use Rattle.std.specs.Option.{option_map}
 use Rattle.std.specs.BTreeMap.{BTreeMap, btree_map_len}
@@ -22,12 +22,13 @@ use Rattle.kl_history.specs.Notices.{Failure, has_failed, downfall, failure, wit
 use Rattle.kl_history.proofs.Failing.{failure_current}
 use Rattle.kl_core.specs.declared.closing.Close.{Close}
 use Rattle.kl_core.specs.declared.closing.Close.TheVariants.{Found, Lost, Dropped}
-use Rattle.kl_core.specs.declared.entry.Entry.{Entry}
-use Rattle.kl_core.specs.declared.entry.Opening.{Opening}
+use Rattle.kl_agents.specs.declared.entry.Entry.{Entry}
+use Rattle.kl_agents.specs.declared.entry.Opening.{Opening}
 use Rattle.kl_core.specs.Tickets.{IsGiven}
-use Rattle.kl_core.specs.Inner.Keeping.{Says, IsEntry}
+use Rattle.kl_core.specs.Inner.Keeping.{Says}
 use Rattle.kl_core.specs.Inner.Closing.{close_why, close_record, after_close, IsCloseOf}
-use Rattle.kl_core.specs.Inner.Failing.{IsTold, failure_of}
+use Rattle.kl_agents.specs.Failing.{failure_of}
+use Rattle.kl_core.specs.Inner.Failing.{IsTold}
 use Rattle.kl_core.proofs.OneMore.{past_of-snoc}
 use Rattle.kl_core.proofs.Standing.{live_of}
 use Rattle.kl_core.proofs.Ending.{IsCurrentEntry, TellsNow, says_closed}

@@ -31,17 +31,17 @@ use Rattle.kl_history.specs.Accepted.{no_boot, SignsBoot, HasAccepted, WasAccept
 use Rattle.kl_history.specs.States.{ended, is_current, HasReached}
 use Rattle.kl_history.specs.Legal.{is_add, is_remove, IsCaseOf, MayClose, Row, weight_of}
 use Rattle.kl_history.proofs.OwnRecords.{own-yes}
-use Rattle.kl_core.specs.declared.entry.Entry.{Entry}
-use Rattle.kl_core.specs.declared.entry.Opening.{Opening}
+use Rattle.kl_agents.specs.declared.entry.Entry.{Entry}
+use Rattle.kl_agents.specs.declared.entry.Opening.{Opening}
 use Rattle.kl_core.specs.Tickets.{IsGiven}
 use Rattle.kl_core.specs.States.{Accepted}
 use Rattle.kl_core.specs.Closes.{record_by}
 use Rattle.kl_core.specs.Inner.Keeping.{Says, Tells, IsEntry, HasEntry, IsOpening, HasOpening, IsBook}
 use Rattle.kl_core.specs.declared.closing.Close.{Close}
 use Rattle.kl_core.specs.declared.closing.Close.TheVariants.{Found, Lost, Dropped}
-use Rattle.kl_core.specs.Inner.Steps.{latest_poll, found, NotedIf}
+use Rattle.kl_agents.specs.Steps.{latest_poll, found, NotedIf}
 use Rattle.kl_core.specs.Inner.Closing.{close_record, close_weight, close_boot, after_close, IsCloseOf}
-use Rattle.kl_core.proofs.Texts.{eq_yes}
+use Rattle.kl_agents.proofs.Texts.{eq_yes}
 use Rattle.kl_core.proofs.OneMore.{Calm, Quiet, quiet_verdict, quiet_restart, quiet_lost, quiet_dropped}
 use Rattle.kl_core.proofs.Ours.{says_dropped, says_passed, says_failed, says_invalid, says_restarted, says_stale_verdict, says_stale_restart, says_lost, says_stale_loss}
 use Rattle.kl_core.proofs.Keeping.{agents_at, BeginsNone, entry_step, has_theirs}

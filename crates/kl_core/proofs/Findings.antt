@@ -9,7 +9,7 @@ use Rattle.kl_states.specs.declared.verdict.InvalidCause.TheVariants.{Signature,
 use Rattle.kl_appraise.specs.declared.judged.Boot.{Boot}
 use Rattle.kl_appraise.specs.Terms.{TermsFields}
 use Rattle.kl_appraise.specs.QuoteRules.{◌otherwise◌, QuoteRules}
-use Rattle.kl_appraise.specs.ListRules.{Case, check_of, Continues, WholeList, IsPlace, IsCut, ByQuote, ByStart, ByBoot, ByPcr, ByLine, ByListFull, ByUnmatched, ByEntry, ByPass, ListRules}
+use Rattle.kl_appraise.specs.ListRules.{Case, check_of, Continues, IsPlace, IsCut, ByStart, ByBoot, ByPcr, ByLine, ByListFull, ByUnmatched, ByEntry, ByPass, ListRules}
 use Rattle.kl_appraise.specs.declared.judged.Outcome.{Outcome}
 use Rattle.kl_appraise.specs.declared.judged.Outcome.TheVariants.{Verdict as Judged}
 use Rattle.kl_appraise.specs.declared.judged.Outcome.TheVariants as rules

@@ -1,8 +1,6 @@
 -- The ticket that a poll's Begin gave stays its ticket, and the share that a Release gave stays its share, whatever comes behind; and
 -- a release stays open until it is settled.
-use Rattle.std.proofs.Common.{◌≡◌, ℕ, ◌≤◌, Bool, true, false, not, ◌&&◌, ◌||◌, [], ◌∷◌, ◌++◌, Some, inl, inr, refl, ap, sym, ◌∙◌, subst, arith, append_assoc, append-nil}
-use Rattle.std.specs.Prelude.{All}
-use Rattle.std.proofs.lemmas.List.Elements.{All-head, All-tail}
+use Rattle.std.proofs.Common.{◌≡◌, ℕ, ◌≤◌, [], ◌∷◌, ◌++◌, Some, inl, inr, ap, sym, ◌∙◌, subst, arith}
 use Rattle.std.proofs.lemmas.List.{reverse-append}
 use Rattle.std.proofs.lemmas.Bool.{ne_eqb, cond-false, cases_eq}
 use lib.Dec.{eqb}
@@ -11,11 +9,11 @@ use Rattle.kl_appraise.specs.Terms.{TermsFields}
 use Rattle.kl_incr.specs.Kept.{TicketFields}
 use Rattle.kl_history.specs.declared.record.Record.{Record}
 use Rattle.kl_history.specs.declared.record.Record.TheVariants.{Install, Begin, Verdict, Restart, Lost, Dropped, Release, Settled, Stop, Remove}
-use Rattle.kl_history.specs.Records.{History, Past, past_of, Beginning, start_of, releases, settles, is_unsettled, terms_of, is_begin, is_install, generations, polls}
+use Rattle.kl_history.specs.Records.{History, Past, past_of, Beginning, start_of, terms_of, is_begin, is_install, generations, polls}
 use Rattle.kl_history.specs.Legal.{Row, IsLegalPast, Legal}
 use Rattle.kl_core.specs.Tickets.{IsGiven}
-use Rattle.kl_core.specs.Shares.{ShareFields, IsGivenShare, IsOpenShare}
-use Rattle.kl_core.proofs.OneMore.{past_of-snoc, counted, counted_as, Calm, Quiet, calm_install, calm_begin, quiet_verdict, quiet_restart, quiet_lost, quiet_dropped, quiet_release, quiet_settled, quiet_stop, quiet_remove}
+use Rattle.kl_core.specs.Shares.{ShareFields, IsGivenShare}
+use Rattle.kl_core.proofs.OneMore.{counted, counted_as, Calm, Quiet, calm_install, calm_begin, quiet_verdict, quiet_restart, quiet_lost, quiet_dropped, quiet_release, quiet_settled, quiet_stop, quiet_remove}
 use Rattle.kl_core.proofs.Keeping.{given_stays}
 use Rattle.kl_core.proofs.Delivered.{evidence_stays}
 use Rattle.kl_core.proofs.Awaited.{handing_stays}

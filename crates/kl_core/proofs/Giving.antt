@@ -15,14 +15,14 @@ use Rattle.kl_history.specs.LookBacks.{Installed, Passing, came, losses, missed}
 use Rattle.kl_history.specs.States.{is_stop, is_invalid, is_failed, handed_for, PassedUnder, IsDue, IsLiveOp, IsOp, HasOp}
 use Rattle.kl_history.specs.Legal.{HasRoom}
 use Rattle.kl_history.specs.Releases.{MayRelease}
-use Rattle.kl_core.specs.declared.entry.Entry.{Entry}
-use Rattle.kl_core.specs.declared.entry.Handed.{Handed}
-use Rattle.kl_core.specs.declared.entry.Passed.{Passed}
-use Rattle.kl_core.specs.declared.reached.Target.{Target}
+use Rattle.kl_agents.specs.declared.entry.Entry.{Entry}
+use Rattle.kl_agents.specs.declared.entry.Handed.{Handed}
+use Rattle.kl_agents.specs.declared.entry.Passed.{Passed}
+use Rattle.kl_agents.specs.declared.reached.Target.{Target}
 use Rattle.kl_core.specs.Shares.{IsAwaited, IsOwed, MayHand, Gives}
 use Rattle.kl_core.specs.Inner.Keeping.{terms_at, IsEntry}
 use Rattle.kl_core.specs.Inner.Handing.{evidence_at, v_of, contact_of, public_of, IsPlaced, IsHanded, HasHanded, IsReady, Reaches}
-use Rattle.kl_core.specs.Inner.Steps.{op_of}
+use Rattle.kl_agents.specs.Steps.{op_of}
 use Rattle.kl_core.proofs.Standing.{op_stands}
 use Rattle.kl_core.proofs.Delivered.{passed_last}
 

@@ -7,29 +7,29 @@ use Rattle.std.specs.Str.{bytes_eq}
 use Rattle.std.specs.Cmp.Lexicographic.{slice_cmp}
 use Rattle.std.specs.BTreeMap.{BTreeMap, get, btree_map_len, Updates, IsUnchanged, is_at}
 use Rattle.std.specs.Map.{lookup}
-use Rattle.std.specs.Option.{option_map, option_map_or}
-use Rattle.std.proofs.lemmas.List.Sums.{sum_by-cons, count_by-le-length}
+use Rattle.std.specs.Option.{option_map}
+use Rattle.std.proofs.lemmas.List.Sums.{sum_by-cons}
 use Rattle.std.proofs.lemmas.Bool.{eq-eqb, both_ways}
-use Rattle.std.proofs.lemmas.Option.{same_Some, none-some}
+use Rattle.std.proofs.lemmas.Option.{same_Some}
 use lib.Dec.{eqb}
 use Rattle.kl_policy.specs.PolicyFields.{PolicyFields}
 use Rattle.kl_appraise.specs.Terms.{TermsFields}
 use Rattle.kl_history.specs.declared.record.Record.{Record}
 use Rattle.kl_history.specs.declared.record.Record.TheVariants.{Install, Begin, Stop, Remove}
 use Rattle.kl_history.specs.declared.record.InstallWhy.{InstallWhy}
-use Rattle.kl_history.specs.declared.record.InstallWhy.TheVariants.{Add, Replace, Reactivate}
+use Rattle.kl_history.specs.declared.record.InstallWhy.TheVariants.{Replace, Reactivate}
 use Rattle.kl_history.specs.Records.{History, Past, past_of, begins, closes, own, is_install, is_begin, is_close, is_release, is_settling, generations, polls, releases_made, open_polls, open_releases}
-use Rattle.kl_history.specs.LookBacks.{Installed, installed}
+use Rattle.kl_history.specs.LookBacks.{installed}
 use Rattle.kl_history.specs.States.{is_current}
 use Rattle.kl_history.specs.Legal.{is_add, is_remove, MayInstall, IsBusy, Row, weight_of, HasRoom, HasBytes, Fits}
 use Rattle.kl_history.proofs.OwnRecords.{own-yes}
-use Rattle.kl_core.specs.declared.entry.Entry.{Entry}
-use Rattle.kl_core.specs.declared.entry.Opening.{Opening}
+use Rattle.kl_agents.specs.declared.entry.Entry.{Entry}
+use Rattle.kl_agents.specs.declared.entry.Opening.{Opening}
 use Rattle.kl_core.specs.Inner.Keeping.{terms_at, Says, IsEntry, HasEntry, HasOpening, IsBook}
-use Rattle.kl_core.specs.Installs.{with_policy, reinstall}
-use Rattle.kl_core.specs.Inner.Steps.{renewed, polled, stopped}
-use Rattle.kl_core.proofs.OneMore.{past_of-snoc, counted, counted_as, Quiet, quiet_stop, quiet_remove, calm_install, calm_begin, numbers_nil, numbers_quiet, numbers_install, numbers_begin}
-use Rattle.kl_core.proofs.Texts.{eq_yes}
+use Rattle.kl_core.specs.Installs.{with_policy}
+use Rattle.kl_agents.specs.Steps.{renewed, polled, stopped}
+use Rattle.kl_core.proofs.OneMore.{past_of-snoc, counted, counted_as, Quiet, quiet_stop, quiet_remove, calm_install, calm_begin, numbers_quiet, numbers_install, numbers_begin}
+use Rattle.kl_agents.proofs.Texts.{eq_yes}
 use Rattle.kl_core.proofs.Ours.{says_fresh, says_stopped}
 use Rattle.kl_core.proofs.Standing.{live_of, opening_at}
 use Rattle.kl_core.proofs.Keeping.{agents_at, polls_at, entry_step, has_theirs, newly, entry_fresh, begins_theirs, entry_polled, has_opening, closed_opening, opening_begun}

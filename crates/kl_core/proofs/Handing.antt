@@ -1,13 +1,13 @@
 -- What is kept of releases stays what the records say.
 use Rattle.std.proofs.Common.{◌≡◌, ◌≢◌, ℕ, ◌+◌, ◌≤◌, Bool, true, false, not, cond, ◌&&◌, ◌||◌, List, [], ◌∷◌, ◌++◌, length, Option, Some, None, ◌⊎◌, inl, inr, refl, ap, ap₂, sym, ◌∙◌, subst, arith}
-use Rattle.std.specs.Prelude.{is_some, IsSome, slice_get, option_and_then}
+use Rattle.std.specs.Prelude.{is_some, slice_get, option_and_then}
 use Rattle.std.specs.Option.{option_map, option_map_or, unwrap_or}
 use Rattle.std.specs.Map.{lookup}
 use Rattle.std.specs.Ordering.{nat_cmp}
 use Rattle.std.specs.Str.{bytes_eq}
 use Rattle.std.specs.Cmp.Lexicographic.{slice_cmp}
 use Rattle.std.specs.BTreeMap.{BTreeMap, get, Updates, IsUnchanged, is_at}
-use Rattle.std.proofs.lemmas.Bool.{cond-true, cond-false, cases_eq, cases_Bool, ne_eqb, eqb-true, eq-eqb, both_ways, and_parts}
+use Rattle.std.proofs.lemmas.Bool.{cond-true, cond-false, cases_eq, ne_eqb, eqb-true, eq-eqb, both_ways, and_parts}
 use Rattle.std.proofs.lemmas.Grind.{common_steps}
 use Rattle.std.proofs.lemmas.Option.{same_Some, none-some}
 use lib.Dec.{eqb}
@@ -19,26 +19,26 @@ use Rattle.kl_appraise.specs.Terms.{TermsFields}
 use Rattle.kl_history.specs.declared.record.Record.{Record}
 use Rattle.kl_history.specs.declared.record.Record.TheVariants.{Install, Begin, Verdict, Restart, Lost, Dropped, Release, Settled, Stop, Remove}
 use Rattle.kl_history.specs.declared.record.InstallWhy.TheVariants.{Add, Replace, Reactivate}
-use Rattle.kl_history.specs.Records.{History, Past, Handing, handing_of, releases, settles, is_unsettled, is_release_of, is_release, is_settling, releases_made, belongs, own}
+use Rattle.kl_history.specs.Records.{History, Past, Handing, releases, settles, is_unsettled, is_release, is_settling, belongs, own}
 use Rattle.kl_history.specs.States.{handed_for, PassedUnder, HasReached}
 use Rattle.kl_history.specs.Legal.{is_add, IsLegalPast}
 use Rattle.kl_history.proofs.OwnRecords.{own-yes, own-no}
-use Rattle.kl_core.specs.declared.entry.Entry.{Entry}
-use Rattle.kl_core.specs.declared.entry.Handed.{Handed}
-use Rattle.kl_core.specs.declared.entry.Passed.{Passed}
-use Rattle.kl_core.specs.declared.reached.Target.{Target}
-use Rattle.kl_core.specs.Shares.{evidence_of, IsAwaited}
-use Rattle.kl_core.specs.Inner.Keeping.{terms_at, Tells, IsEntry}
-use Rattle.kl_core.specs.Inner.Reached.{target_cmp, target_of, has_place, is_marked, Reserves, MarksAt}
+use Rattle.kl_agents.specs.declared.entry.Entry.{Entry}
+use Rattle.kl_agents.specs.declared.entry.Handed.{Handed}
+use Rattle.kl_agents.specs.declared.entry.Passed.{Passed}
+use Rattle.kl_agents.specs.declared.reached.Target.{Target}
+use Rattle.kl_core.specs.Shares.{IsAwaited}
+use Rattle.kl_core.specs.Inner.Keeping.{Tells}
+use Rattle.kl_agents.specs.Reached.{target_cmp, target_of, has_place, is_marked, Reserves}
 use Rattle.kl_core.specs.Inner.Handing.{evidence_by, evidence_at, IsPlaced, HasSources, IsHanded, IsReady, release_with, HasHanded, Reaches, IsHanding}
-use Rattle.kl_core.specs.Inner.Settling.{settled_by, arrival, MarkedIf}
-use Rattle.kl_core.specs.Inner.Steps.{NotedIf, handed, is_boot, is_handed, is_hit, settled}
-use Rattle.kl_core.proofs.Texts.{same_or_not, eq_yes, eq_no}
+use Rattle.kl_agents.specs.Settling.{settled_by, arrival, MarkedIf}
+use Rattle.kl_agents.specs.Steps.{NotedIf, handed, is_boot, is_handed, is_hit, settled}
+use Rattle.kl_agents.proofs.Texts.{eq_yes, eq_no}
 use Rattle.kl_core.proofs.OneMore.{counted_as, slice_get-front, slice_get-seam, terms_at-front, Calm, quiet_release}
 use Rattle.kl_core.proofs.Keeping.{agents_at}
-use Rattle.kl_core.proofs.Marks.{marked, same_or_other}
+use Rattle.kl_agents.proofs.Marks.{marked, same_or_other}
 use Rattle.kl_core.proofs.Delivered.{evidence_stays, passed_stays, passed_once}
-use Rattle.kl_core.proofs.Awaited.{made_anew, handing_within, handing_stays, IsMade, handed_made, awaited_before}
+use Rattle.kl_core.proofs.Awaited.{made_anew, handing_within, handing_stays, handed_made, awaited_before}
 
 -- ---- what a record does that neither makes nor settles a release
 no_release : (r : Record) (n : ℕ) → is_release r ≡ false → releases n r ≡ false

@@ -11,42 +11,40 @@ use Rattle.std.proofs.lemmas.Bool.{both_ways, and_parts}
 use Rattle.std.proofs.lemmas.Option.{same_Some, none-some}
 use Rattle.kl_states.specs.declared.verdict.Verdict.TheVariants.{Pass, Failed, Invalid}
 use Rattle.kl_appraise.specs.declared.judged.Boot.{Boot}
-use Rattle.kl_appraise.specs.declared.kept.Kept.{Kept}
 use Rattle.kl_appraise.specs.declared.judged.Outcome.TheVariants as finding
 use Rattle.kl_appraise.specs.Terms.{TermsFields}
 use Rattle.kl_states.specs.declared.op.Op.{Op}
 use Rattle.kl_incr.specs.Kept.{TicketFields}
 use lib.Dec.{eqb}
 use Rattle.kl_history.specs.declared.record.Record.{Record}
-use Rattle.kl_history.specs.declared.record.Record.TheVariants.{Install, Begin, Stop, Remove}
-use Rattle.kl_history.specs.declared.record.InstallWhy.TheVariants.{Add, Replace, Reactivate}
-use Rattle.kl_history.specs.Records.{History, Past, past_of, belongs, own, is_release, is_settling}
+use Rattle.kl_history.specs.declared.record.Record.TheVariants.{Install}
+use Rattle.kl_history.specs.declared.record.InstallWhy.TheVariants.{Add}
+use Rattle.kl_history.specs.Records.{History, Past, past_of, own, is_release, is_settling}
 use Rattle.kl_history.specs.LookBacks.{Installed, installed}
 use Rattle.kl_history.specs.States.{ended, is_current, HasReached}
 use Rattle.kl_history.specs.Legal.{is_add, IsBusy, IsLegalPast}
 use Rattle.kl_history.specs.Accepted.{WasAccepted}
 use Rattle.kl_history.specs.Notices.{failure}
-use Rattle.kl_core.specs.declared.entry.Entry.{Entry}
-use Rattle.kl_core.specs.declared.entry.Opening.{Opening}
-use Rattle.kl_core.specs.declared.entry.Handed.{Handed}
-use Rattle.kl_core.specs.declared.entry.Passed.{Passed}
-use Rattle.kl_core.specs.declared.reached.Target.{Target}
+use Rattle.kl_agents.specs.declared.entry.Entry.{Entry}
+use Rattle.kl_agents.specs.declared.entry.Opening.{Opening}
+use Rattle.kl_agents.specs.declared.entry.Handed.{Handed}
+use Rattle.kl_agents.specs.declared.entry.Passed.{Passed}
+use Rattle.kl_agents.specs.declared.reached.Target.{Target}
 use Rattle.kl_core.specs.declared.closing.Close.{Close}
 use Rattle.kl_core.specs.declared.closing.Close.TheVariants.{Found, Lost, Dropped}
 use Rattle.kl_core.specs.Begins.{MayPoll}
 use Rattle.kl_core.specs.Tickets.{IsGiven}
 use Rattle.kl_core.specs.Inner.Keeping.{Tells, terms_at, IsEntry, HasEntry, IsOpening, IsBook}
-use Rattle.kl_core.specs.Inner.Reached.{is_marked, target_of}
 use Rattle.kl_core.specs.Inner.Handing.{IsPlaced, IsHanding}
 use Rattle.kl_core.specs.Inner.Closing.{close_record, close_weight, close_boot, close_why, after_close, IsCloseOf}
-use Rattle.kl_core.specs.Inner.Failing.{failure_of}
-use Rattle.kl_core.specs.Inner.Steps.{NotedIf, stopped, polled, renewed, found}
-use Rattle.kl_core.specs.Inner.Settling.{only_if}
+use Rattle.kl_agents.specs.Failing.{failure_of}
+use Rattle.kl_agents.specs.Steps.{NotedIf}
+use Rattle.kl_agents.specs.Settling.{only_if}
 use Rattle.kl_core.proofs.Standing.{entry_at}
 use Rattle.kl_core.proofs.Ours.{few_lost}
 use Rattle.kl_core.proofs.Ending.{IsCurrentEntry, TellsReached, TellsNow, whose, was_of, note_where, agents_closed, book_close}
 use Rattle.kl_core.proofs.Downfalls.{close_fails}
-use Rattle.kl_core.proofs.Texts.{eq_yes}
+use Rattle.kl_agents.proofs.Texts.{eq_yes}
 use Rattle.kl_core.proofs.OneMore.{past_of-snoc}
 use Rattle.kl_core.proofs.Givens.{calm_of}
 use Rattle.kl_core.proofs.Handing.{Follows, stays, enters, handing_on, placed_now, agent_at}

@@ -17,15 +17,14 @@ use Rattle.kl_history.specs.declared.record.InstallWhy.{InstallWhy}
 use Rattle.kl_history.specs.Records.{History, Past, Beginning, start_of, begins, closes, is_open, belongs, own, generations, polls}
 use Rattle.kl_history.specs.LookBacks.{installed}
 use Rattle.kl_history.specs.Accepted.{WasAccepted}
-use Rattle.kl_history.specs.States.{HasReached}
 use Rattle.kl_history.specs.Legal.{IsBusy}
 use Rattle.kl_history.proofs.OwnRecords.{own-yes, own-no}
-use Rattle.kl_core.specs.declared.entry.Entry.{Entry}
-use Rattle.kl_core.specs.declared.entry.Opening.{Opening}
+use Rattle.kl_agents.specs.declared.entry.Entry.{Entry}
+use Rattle.kl_agents.specs.declared.entry.Opening.{Opening}
 use Rattle.kl_core.specs.Tickets.{IsGiven}
 use Rattle.kl_core.specs.Inner.Keeping.{Says, IsPollOf, IsEntry, HasEntry, ticket_of, IsOpening, HasOpening, Numbers}
-use Rattle.kl_core.specs.Inner.Steps.{latest_poll, fresh, polled}
-use Rattle.kl_core.proofs.Texts.{same_or_not, eq_yes, eq_no}
+use Rattle.kl_agents.specs.Steps.{latest_poll, fresh, polled}
+use Rattle.kl_agents.proofs.Texts.{same_or_not, eq_yes, eq_no}
 use Rattle.kl_core.proofs.OneMore.{Calm, terms_at-front, terms_at-end, calm_begin}
 use Rattle.kl_core.proofs.Ours.{was_own, was_now, says_polled}
 

@@ -1,7 +1,5 @@
-pub mod Texts
 pub mod OneMore
 pub mod Ours
-pub mod Marks
 pub mod Delivered
 pub mod Awaited
 pub mod Standing
@@ -10,7 +8,7 @@ pub mod Growing
 pub mod Findings
 pub mod Ending
 pub mod Handing
-pub mod FirstDue
+pub mod Picked
 pub mod Downfalls
 pub mod Releasing
 pub mod Telling

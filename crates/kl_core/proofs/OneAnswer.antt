@@ -1,6 +1,5 @@
 -- A call has one answer, unless memory runs out: of the reasons to refuse it the first that applies is one.
-use Rattle.std.proofs.Common.{◌≡◌, ◌≢◌, ◌⊎◌, ℕ, Bool, true, false, List, ◌∷◌, length, Option, Some, None, is_some, Ok, Err, Ordering, inl, inr, refl, ap, sym, ◌∙◌, subst, arith}
-use Rattle.std.specs.Prelude.{Result}
+use Rattle.std.proofs.Common.{◌≡◌, ◌≢◌, ℕ, Bool, true, false, List, ◌∷◌, length, Option, Some, None, is_some, Ok, Err, Ordering, inl, inr, refl, ap, sym, ◌∙◌, subst, arith}
 use Rattle.std.specs.Ordering.{nat_cmp, is_gt, is_eq, ordering_reverse}
 use Rattle.std.specs.declared.cmp.Ordering.TheVariants.{Less, Equal, Greater}
 use Rattle.std.specs.Cmp.Lexicographic.{slice_cmp}
@@ -46,7 +45,7 @@ use Rattle.kl_core.specs.Shares.{ShareFields, IsSettlement, OwnSettles, Settles}
 use Rattle.kl_core.specs.States.{IsState, StateAnswers}
 use Rattle.kl_core.specs.Picks.{IsAhead, PickAnswers}
 use Rattle.kl_core.specs.Notices.{NoticeAnswers, MarkAnswers}
-use Rattle.kl_core.proofs.Texts.{eq_same}
+use Rattle.kl_agents.proofs.Texts.{eq_same}
 use Rattle.kl_core.proofs.Awaited.{awaited_once}
 use Rattle.kl_core.specs.Answers.{IsAmple, IsAmpleWith, IsAny, IsOneAnswer}
 

@@ -1,5 +1,5 @@
 -- What one record more does to what an agent's own records say.
-use Rattle.std.proofs.Common.{◌≡◌, ℕ, suc, ◌+◌, ◌<◌, ◌≤◌, Bool, true, false, cond, ◌||◌, List, [], ◌∷◌, Option, Some, None, refl, ap, sym, ◌∙◌, subst, arith}
+use Rattle.std.proofs.Common.{◌≡◌, ℕ, suc, ◌+◌, ◌<◌, Bool, true, false, cond, ◌||◌, List, [], ◌∷◌, Option, Some, None, refl, ap, sym, ◌∙◌, subst, arith}
 use Rattle.std.specs.Prelude.{is_some}
 use Rattle.std.proofs.lemmas.Bool.{cond-false, eq-eqb, or_parts, both_ways}
 use Rattle.std.proofs.lemmas.Option.{same_Some, none-some}
@@ -18,16 +18,16 @@ use Rattle.kl_appraise.specs.declared.judged.Outcome.TheVariants as finding
 use Rattle.kl_history.specs.declared.record.Record.{Record}
 use Rattle.kl_history.specs.declared.record.Record.TheVariants.{Install, Begin, Verdict, Restart, Lost, Dropped, Release, Settled, Stop, Remove}
 use Rattle.kl_history.specs.declared.record.InstallWhy.{InstallWhy}
-use Rattle.kl_history.specs.Records.{Past, begins, belongs, own}
+use Rattle.kl_history.specs.Records.{Past, begins, own}
 use Rattle.kl_history.specs.LookBacks.{came, losses, missed}
 use Rattle.kl_history.specs.Accepted.{no_boot, SignsBoot, HasAccepted, IsAccepted, WasAccepted}
 use Rattle.kl_history.specs.States.{ended, is_stop, is_invalid, is_failed, HasReached}
 use Rattle.kl_history.proofs.OwnRecords.{own-step}
-use Rattle.kl_core.specs.declared.entry.Entry.{Entry}
-use Rattle.kl_core.specs.declared.entry.Passed.{Passed}
+use Rattle.kl_agents.specs.declared.entry.Entry.{Entry}
+use Rattle.kl_agents.specs.declared.entry.Passed.{Passed}
 use Rattle.kl_core.specs.Inner.Keeping.{Says, Tells}
 use Rattle.kl_core.specs.States.{Accepted}
-use Rattle.kl_core.specs.Inner.Steps.{fresh, stopped, polled, lost, found, handed, settled}
+use Rattle.kl_agents.specs.Steps.{fresh, stopped, polled, lost, found, handed, settled}
 
 -- ---- what was accepted when a poll began stays
 was_stays : (r : Record) (past : Past) (p : ℕ) (entries : List EntryFields) (boot : Boot) → begins p r ≡ false → WasAccepted p past entries boot → WasAccepted p (r ∷ past) entries boot

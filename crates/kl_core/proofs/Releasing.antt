@@ -1,6 +1,6 @@
 -- V is released, and a release is settled: the record meets its row, and a book stays one.
 use Rattle.std.proofs.Common.{◌≡◌, ℕ, ◌+◌, ◌≤◌, Bool, true, false, cond, ◌&&◌, List, [], ◌∷◌, ◌++◌, length, Option, Some, None, inl, inr, refl, ap, sym, ◌∙◌, subst, arith, length-append}
-use Rattle.std.specs.Prelude.{count_by, is_some, is_none, IsSome}
+use Rattle.std.specs.Prelude.{is_none}
 use Rattle.std.specs.Option.{option_map, option_map_or}
 use Rattle.std.specs.Ordering.{nat_cmp}
 use Rattle.std.specs.Str.{bytes_eq}
@@ -8,39 +8,36 @@ use Rattle.std.specs.Cmp.Lexicographic.{slice_cmp}
 use Rattle.std.specs.BTreeMap.{BTreeMap, get, btree_map_len, Updates, is_at}
 use Rattle.std.specs.Map.{lookup}
 use Rattle.std.proofs.lemmas.List.Sums.{sum_by-cons}
-use Rattle.std.proofs.lemmas.Bool.{and_parts, both_ways, false≢true}
-use Rattle.std.proofs.lemmas.Option.{same_Some, none-some}
+use Rattle.std.proofs.lemmas.Bool.{and_parts, false≢true}
+use Rattle.std.proofs.lemmas.Option.{none-some}
 use lib.Dec.{eqb}
 use Rattle.kl_states.specs.declared.op.Op.{Op}
 use Rattle.kl_states.specs.declared.outcome.Outcome.{Outcome}
 use Rattle.kl_states.specs.declared.outcome.Outcome.TheVariants.{Arrived, Missed, Withdrawn}
-use Rattle.kl_states.specs.Ops.{is_owed}
 use Rattle.kl_appraise.specs.Terms.{TermsFields}
 use Rattle.kl_notice.specs.declared.notice.FailWhy.{FailWhy}
 use Rattle.kl_notice.specs.declared.notice.FailWhy.TheVariants.{Undelivered}
 use Rattle.kl_history.specs.declared.record.Record.{Record}
 use Rattle.kl_history.specs.declared.record.Record.TheVariants.{Release, Settled}
-use Rattle.kl_history.specs.Records.{History, Past, Handing, handing_of, is_unsettled, belongs, own, is_install, is_begin, is_close, is_release, is_settling, generations, polls, releases_made, open_polls, open_releases}
-use Rattle.kl_history.specs.LookBacks.{Installed, installed, Passing, last_pass}
-use Rattle.kl_history.specs.States.{ended, is_current, handed_for, IsOp}
-use Rattle.kl_history.specs.Legal.{is_add, is_remove, MaySettle, Row, weight_of, HasRoom, Fits}
+use Rattle.kl_history.specs.Records.{History, Past, Handing, belongs, own, is_install, is_begin, is_close, is_release, is_settling}
+use Rattle.kl_history.specs.LookBacks.{Installed, installed}
+use Rattle.kl_history.specs.States.{ended, is_current}
+use Rattle.kl_history.specs.Legal.{is_add, is_remove, MaySettle, weight_of, HasRoom, Fits}
 use Rattle.kl_history.specs.Releases.{MayRelease}
 use Rattle.kl_history.specs.Notices.{Failure, has_failed, failure}
 use Rattle.kl_history.proofs.OwnRecords.{own-yes}
-use Rattle.kl_core.specs.declared.entry.Entry.{Entry}
-use Rattle.kl_core.specs.declared.entry.Handed.{Handed}
-use Rattle.kl_core.specs.declared.entry.Opening.{Opening}
-use Rattle.kl_core.specs.declared.entry.Passed.{Passed}
-use Rattle.kl_core.specs.Shares.{IsAwaited}
-use Rattle.kl_core.specs.Inner.Keeping.{Says, IsEntry, HasEntry, HasOpening, IsBook}
-use Rattle.kl_core.specs.Inner.Failing.{failure_of}
-use Rattle.kl_core.specs.Inner.Handing.{IsHanded, Reaches}
-use Rattle.kl_core.specs.Inner.Settling.{settled_by, only_if, settle_why}
-use Rattle.kl_core.specs.Inner.Steps.{NotedIf, is_due, op_of, live_op, handed, is_hit, settled}
-use Rattle.kl_core.proofs.Texts.{eq_yes, same_or_not}
-use Rattle.kl_core.proofs.OneMore.{counted, Calm, Quiet, quiet_release, quiet_settled, numbers_quiet}
+use Rattle.kl_agents.specs.declared.entry.Entry.{Entry}
+use Rattle.kl_agents.specs.declared.entry.Handed.{Handed}
+use Rattle.kl_agents.specs.declared.entry.Opening.{Opening}
+use Rattle.kl_core.specs.Inner.Keeping.{Says, IsEntry, HasEntry, IsBook}
+use Rattle.kl_agents.specs.Failing.{failure_of}
+use Rattle.kl_core.specs.Inner.Handing.{IsHanded}
+use Rattle.kl_agents.specs.Settling.{settled_by, only_if, settle_why}
+use Rattle.kl_agents.specs.Steps.{NotedIf, handed, is_hit, settled}
+use Rattle.kl_agents.proofs.Texts.{eq_yes, same_or_not}
+use Rattle.kl_core.proofs.OneMore.{counted, quiet_release, quiet_settled, numbers_quiet}
 use Rattle.kl_core.proofs.Ours.{says_released, NowReached, says_settled, says_settled_late}
-use Rattle.kl_core.proofs.Standing.{due, op_stands, live_of, current_is}
+use Rattle.kl_core.proofs.Standing.{live_of}
 use Rattle.kl_core.proofs.Keeping.{agents_at, entry_step, has_theirs, has_opening}
 use Rattle.kl_core.proofs.Growing.{fits_more}
 use Rattle.kl_core.proofs.Ending.{StaysPolled}

@@ -18,17 +18,18 @@ use Rattle.kl_history.specs.declared.record.Record.TheVariants.{Settled}
 use Rattle.kl_history.specs.Records.{History, Past, past_of, Handing, is_unsettled, terms_of, own}
 use Rattle.kl_history.specs.States.{is_current, PassedUnder, HasOp}
 use Rattle.kl_history.specs.Notices.{with_failure}
-use Rattle.kl_core.specs.declared.entry.Entry.{Entry}
-use Rattle.kl_core.specs.declared.entry.Handed.{Handed}
-use Rattle.kl_core.specs.declared.entry.Opening.{Opening}
-use Rattle.kl_core.specs.declared.reached.Target.{Target}
+use Rattle.kl_agents.specs.declared.entry.Entry.{Entry}
+use Rattle.kl_agents.specs.declared.entry.Handed.{Handed}
+use Rattle.kl_agents.specs.declared.entry.Opening.{Opening}
+use Rattle.kl_agents.specs.declared.reached.Target.{Target}
 use Rattle.kl_core.specs.Shares.{ShareFields, evidence_of, IsGivenShare, IsOpenShare}
 use Rattle.kl_core.specs.Inner.Keeping.{terms_at, IsBook}
-use Rattle.kl_core.specs.Inner.Failing.{IsTold, failure_of}
-use Rattle.kl_core.specs.Inner.Reached.{has_place, target_of}
+use Rattle.kl_agents.specs.Failing.{failure_of}
+use Rattle.kl_core.specs.Inner.Failing.{IsTold}
+use Rattle.kl_agents.specs.Reached.{has_place, target_of}
 use Rattle.kl_core.specs.Inner.Handing.{evidence_at, HasParts, IsHanded, HasHanded, IsHanding}
-use Rattle.kl_core.specs.Inner.Settling.{settled_by, arrival, MarkedIf, only_if, settle_why}
-use Rattle.kl_core.specs.Inner.Steps.{NotedIf, is_handed, is_hit, op_of}
+use Rattle.kl_agents.specs.Settling.{settled_by, arrival, MarkedIf, only_if, settle_why}
+use Rattle.kl_agents.specs.Steps.{NotedIf, is_handed, is_hit, op_of}
 use Rattle.kl_core.proofs.OneMore.{quiet_settled}
 use Rattle.kl_core.proofs.Ours.{NowReached}
 use Rattle.kl_core.proofs.Standing.{entry_at, has_op}

@@ -11,19 +11,20 @@ use Rattle.kl_appraise.specs.Terms.{TermsFields}
 use Rattle.kl_appraise.specs.declared.judged.Boot.{Boot}
 use Rattle.kl_history.proofs.OneStanding.{boot_same}
 use Rattle.kl_history.specs.Accepted.{SignsBoot}
-use Rattle.kl_core.specs.declared.entry.Passed.{Passed}
+use Rattle.kl_agents.specs.declared.entry.Passed.{Passed}
 use Rattle.kl_history.specs.Records.{History, Past, own, is_open, polls}
-use Rattle.kl_history.specs.LookBacks.{Installed, installed, losses, Passing, last_pass}
+use Rattle.kl_history.specs.LookBacks.{Installed, installed, losses, Passing}
 use Rattle.kl_history.specs.States.{ended, is_current, is_live, IsDue, IsLiveOp, IsOp, HasOp, HasReached}
 use Rattle.kl_history.specs.Legal.{IsBusy, HasRoom, HasBytes}
-use Rattle.kl_core.specs.declared.entry.Entry.{Entry}
+use Rattle.kl_agents.specs.declared.entry.Entry.{Entry}
 use Rattle.kl_core.specs.States.{IsState}
-use Rattle.kl_core.specs.declared.entry.Opening.{Opening}
+use Rattle.kl_agents.specs.declared.entry.Opening.{Opening}
 use Rattle.kl_core.specs.declared.refusal.Refusal.{Refusal}
 use Rattle.kl_core.specs.declared.refusal.Refusal.TheVariants.{NoAgent, Exists, AgentsFull, WrongState, Busy, NoPoll, NoRelease, JournalRecords, JournalBytes, Memory}
 use Rattle.kl_core.specs.Begins.{IsPolled, MayPoll, RefusesBegin, Begins}
 use Rattle.kl_core.specs.Inner.Keeping.{Says, IsEntry, HasEntry, IsOpening, HasOpening, terms_at}
-use Rattle.kl_core.specs.Inner.Steps.{is_due, latest_poll, live_op, op_of, Lacks}
+use Rattle.kl_agents.specs.Steps.{is_due, latest_poll, live_op, op_of}
+use Rattle.kl_core.specs.Inner.Bars.{Lacks}
 
 some_pass : (o : Option Passed) → is_some o ≡ true → (k : Passed) × (o ≡ Some k)
 some_pass (Some k) is = (k, refl)

@@ -19,12 +19,10 @@ ghost use Rattle.kl_core.specs.States.{StateAnswers};
 ghost use Rattle.kl_core.specs.Picks.{PickAnswers};
 ghost use Rattle.kl_core.specs.Notices.{NoticeAnswers, MarkAnswers, marks_of};
 ghost use Rattle.kl_core.specs.Inner.Keeping.{IsEntry, HasEntry, HasOpening, terms_at};
-ghost use Rattle.kl_core.specs.Inner.Steps.{IsBarred, Lacks};
+ghost use Rattle.kl_core.specs.Inner.Bars.{IsBarred, Lacks};
 
-use crate::entry::{Entry, Handed, Opening};
-use crate::picking::first_due;
-use crate::reached::Target;
 use crate::refusal::Refusal;
+use kl_agents::{Entry, Handed, Opening, Target, first_due};
 use kl_appraise::SharedTerms;
 use kl_history::Record;
 use kl_notice::{Notice, Outbox};

@@ -1,12 +1,13 @@
 //! What closes a poll, and what follows of it.
 
-ghost use Rattle.std.specs.Prelude.{◌≡◌, ◌≤◌, ◌<◌};
+ghost use Rattle.std.specs.Prelude.{◌≡◌, ◌≤◌, ◌<◌, IfSome};
+ghost use Rattle.std.specs.Option.{option_map};
 ghost use Rattle.kl_quote.specs.Size.{total_bytes};
 ghost use Rattle.kl_core.specs.Closes.{closed_by, record_by};
 ghost use Rattle.kl_core.specs.Inner.Closing.{close_as, close_why, close_record, close_weight, close_boot, after_close};
 
 use crate::closed::ClosedAs;
-use crate::entry::Entry;
+use kl_agents::Entry;
 use kl_appraise::Boot;
 use kl_history::Record;
 use kl_incr::{Kept, Outcome as Finding};
@@ -153,4 +154,21 @@ fn weight_of(evidence: &Evidence) -> u64
         + evidence.public.len()
         + evidence.quote.len()
         + evidence.list.len()) as u64
+}
+
+/// What is kept of an agent after a close, where that is current.
+pub fn closed_if(
+    entry: Option<Entry>,
+    poll: u64,
+    place: usize,
+    reached: bool,
+    by: &Close,
+) -> Option<Entry>
+    requires { IfSome entry (λ e. e.losses < 5) }
+    ensures { result ≡ option_map (after_close poll place reached by.now) entry }
+{
+    match entry {
+        Some(entry) => Some(by.entry_after(poll, place, reached, entry)),
+        None => None,
+    }
 }

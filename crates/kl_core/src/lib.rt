@@ -3,21 +3,14 @@
 //! [`Desk`] is what agents are installed and polled at.
 #![tactic(auto)]
 
-mod agents;
 mod answers;
 mod book;
 mod book_desk;
 mod closed;
 mod closing;
 mod desk;
-mod entry;
-mod failing;
-mod kept_open;
-mod picking;
-mod reached;
 mod refusal;
 mod settlement;
-mod settling;
 mod share;
 
 pub use answers::single_answers;

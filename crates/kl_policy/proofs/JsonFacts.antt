@@ -8,7 +8,7 @@ use Rattle.std.specs.FinMap as finite_map
 use Rattle.std.specs.FinSet.{insert, from_list, from_list_push, slice_cmp-IsAntisymmetric, nat_cmp-IsAntisymmetric}
 use Rattle.std.specs.List.{AllZip}
 use Rattle.std.specs.Ordering.{nat_cmp}
-use Rattle.serde_json.specs.Data.{Data, string, array, object}
+use Rattle.serde_json.specs.Data.{Data, array, object}
 use Rattle.serde_json.specs.Find.{get, as_str}
 use Rattle.serde_json.specs.View.{view, items_view, members_view}
 use Rattle.serde_json.specs.declared.value.Value.{Value}
@@ -19,7 +19,7 @@ use Rattle.kl_json.specs.declared.fault.JsonFault.TheVariants.{NotJson, Missing,
 use Rattle.kl_entry.specs.Lines.{IsFirstFailing}
 use Rattle.kl_digests.specs.Digests.{DigestMap, SpellsDigest}
 use Rattle.kl_policy.specs.Json.{Listed, texts_in, as_texts, listed_in, as_blank, with_path, map_of, IsDecoded, IsGood, IsFirstBadDigest, HasListing, HasParts, IsPartsFault, optional, read_or}
-use Rattle.kl_policy.specs.Inner.JsonParts.{Entry, AreTexts, SpellsValue, SpellsAll, IsCopyFault, IsTextsFault, IsListingFault, IsRestFault, IsParseFault, IsCompileFault}
+use Rattle.kl_policy.specs.Inner.JsonParts.{Entry, AreTexts, SpellsValue, SpellsAll, IsCopyFault, IsTextsFault, IsListingFault, IsRestFault, IsCompileFault}
 use Rattle.kl_policy.specs.Making.{IsJsonFault, IsOfPatterns, IsExcludeFault, AsksFront, Makes}
 use Rattle.kl_policy.specs.Reading.{IsJson}
 use Rattle.kl_policy.specs.declared.fault.Limit.TheVariants.{Paths, Patterns, PatternBytes}

@@ -14,9 +14,9 @@ use Rattle.kl_core.specs.declared.closed.ClosedAs.{ClosedAs}
 use Rattle.kl_core.specs.declared.closed.ClosedAs.TheVariants as closed_as
 use Rattle.kl_core.specs.declared.closing.Close.{Close}
 use Rattle.kl_core.specs.declared.closing.Close.TheVariants.{Found, Lost, Dropped}
-use Rattle.kl_core.specs.declared.entry.Entry.{Entry}
+use Rattle.kl_agents.specs.declared.entry.Entry.{Entry}
 use Rattle.kl_core.specs.Closes.{closed_by, record_by, lost_record, dropped_record}
-use Rattle.kl_core.specs.Inner.Steps.{found, lost}
+use Rattle.kl_agents.specs.Steps.{found, lost}
 
 -- by what it closes a poll, in short
 abbrev pub close_as : Close → ClosedAs

@@ -1,23 +1,23 @@
 -- What a book keeps of releases is what the records say.
-use Rattle.std.specs.Prelude.{◌≡◌, ℕ, ◌+◌, ◌≤◌, Bool, true, false, List, count_by, Option, None, Some, IsSome, slice_get, option_and_then}
+use Rattle.std.specs.Prelude.{◌≡◌, ℕ, ◌+◌, ◌≤◌, Bool, true, false, List, Option, None, Some, IsSome, slice_get, option_and_then}
 use Rattle.std.specs.Ordering.{nat_cmp}
 use Rattle.std.specs.Cmp.Lexicographic.{slice_cmp}
-use Rattle.std.specs.BTreeMap.{BTreeMap, get, btree_map_len}
+use Rattle.std.specs.BTreeMap.{BTreeMap, get}
 use Rattle.kl_quote.specs.declared.evidence.Evidence.{Evidence}
 use Rattle.kl_appraise.specs.declared.judged.Boot.{Boot}
 use Rattle.kl_appraise.specs.Terms.{TermsFields}
 use Rattle.kl_history.specs.declared.record.Record.{Record}
 use Rattle.kl_history.specs.declared.record.Record.TheVariants.{Verdict, Release}
-use Rattle.kl_history.specs.Records.{History, Past, own, handing_of, is_unsettled, terms_of, is_settling, releases_made}
+use Rattle.kl_history.specs.Records.{History, Past, own, handing_of, is_unsettled, terms_of, releases_made}
 use Rattle.kl_history.specs.States.{handed_for, PassedUnder, HasReached}
 use Rattle.kl_history.specs.Releases.{MayRelease}
-use Rattle.kl_core.specs.declared.entry.Entry.{Entry}
-use Rattle.kl_core.specs.declared.entry.Handed.{Handed}
-use Rattle.kl_core.specs.declared.entry.Passed.{Passed}
-use Rattle.kl_core.specs.declared.reached.Target.{Target}
+use Rattle.kl_agents.specs.declared.entry.Entry.{Entry}
+use Rattle.kl_agents.specs.declared.entry.Handed.{Handed}
+use Rattle.kl_agents.specs.declared.entry.Passed.{Passed}
+use Rattle.kl_agents.specs.declared.reached.Target.{Target}
 use Rattle.kl_core.specs.Shares.{ShareFields, evidence_of, IsAwaited}
 use Rattle.kl_core.specs.Inner.Keeping.{terms_at, Tells}
-use Rattle.kl_core.specs.Inner.Reached.{target_of, has_place, is_marked}
+use Rattle.kl_agents.specs.Reached.{target_of, has_place, is_marked}
 
 abbrev pub evidence_by : Record → Option Evidence
 evidence_by (Verdict p e s v c) = Some e

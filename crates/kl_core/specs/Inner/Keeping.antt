@@ -16,14 +16,14 @@ use Rattle.kl_history.specs.LookBacks.{installed, came, losses, missed, Passing,
 use Rattle.kl_history.specs.Accepted.{SignsBoot, WasAccepted}
 use Rattle.kl_history.specs.States.{ended, HasReached}
 use Rattle.kl_history.specs.Legal.{is_add, is_remove, IsBusy, weight_of, Fits, IsLegalPast}
-use Rattle.kl_core.specs.declared.entry.Entry.{Entry}
-use Rattle.kl_core.specs.declared.entry.Begun.{Begun}
-use Rattle.kl_core.specs.declared.entry.Opening.{Opening}
-use Rattle.kl_core.specs.declared.entry.Passed.{Passed}
+use Rattle.kl_agents.specs.declared.entry.Entry.{Entry}
+use Rattle.kl_agents.specs.declared.entry.Begun.{Begun}
+use Rattle.kl_agents.specs.declared.entry.Opening.{Opening}
+use Rattle.kl_agents.specs.declared.entry.Passed.{Passed}
 use Rattle.kl_core.specs.States.{Accepted}
 use Rattle.kl_core.specs.Picks.{begun_at}
 use Rattle.kl_core.specs.Tickets.{IsGiven}
-use Rattle.kl_core.specs.Inner.Steps.{latest_poll}
+use Rattle.kl_agents.specs.Steps.{latest_poll}
 
 abbrev pub terms_by : Record → Option TermsFields
 terms_by (Install a g t w) = Some t

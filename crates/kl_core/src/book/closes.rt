@@ -8,12 +8,10 @@ ghost use Rattle.kl_core.specs.Closes.{IsClosed, closed_by, found_record, OwnFin
 ghost use Rattle.kl_core.specs.Inner.Closing.{close_as, close_record, IsCloseOf};
 
 use super::Book;
-use crate::agents::{closed_if, kept_if, note_if, op_now};
 use crate::closed::Closed;
-use crate::closing::Close;
-use crate::failing::post_if;
-use crate::kept_open::take_one;
+use crate::closing::{Close, closed_if};
 use crate::refusal::Refusal;
+use kl_agents::{kept_if, note_if, op_now, post_if, take_one};
 use kl_incr::{Appraised, Parts, Ticket};
 use kl_states::{DropWhy, LostWhy};
 

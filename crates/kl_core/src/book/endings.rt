@@ -5,8 +5,8 @@ ghost use Rattle.kl_core.specs.Books.{past, with_more};
 ghost use Rattle.kl_core.specs.Endings.{Stops, stop_makes, Removes, remove_makes};
 
 use super::{Book, ends};
-use crate::agents::{kept_at, note, take_out};
 use crate::refusal::Refusal;
+use kl_agents::{kept_at, note, take_out};
 use kl_history::Record;
 use kl_states::AgentId;
 use std::alloc::Global;

@@ -11,9 +11,8 @@ ghost use Rattle.kl_core.specs.Installs.{RefusesAdd, Adds, add_makes, RefusesRea
 ghost use Rattle.kl_core.specs.Inner.Keeping.{IsEntry, terms_at};
 
 use super::{Book, MOST_AGENTS, ends};
-use crate::agents::{kept_at, put_fresh, renew, take_out};
-use crate::entry::Entry;
 use crate::refusal::Refusal;
+use kl_agents::{Entry, kept_at, put_fresh, renew, take_out};
 use kl_appraise::{SharedTerms, Terms};
 use kl_history::{InstallWhy, Record};
 use kl_policy::Policy;

@@ -6,13 +6,11 @@ ghost use Rattle.kl_history.specs.Legal.{IsBusy, HasRoom, HasBytes};
 ghost use Rattle.kl_core.specs.Books.{past, with_more};
 ghost use Rattle.kl_core.specs.Begins.{MayPoll, RefusesBegin, BeginAnswers, begin_makes};
 ghost use Rattle.kl_core.specs.Inner.Keeping.{IsEntry};
-ghost use Rattle.kl_core.specs.Inner.Steps.{latest_poll};
+ghost use Rattle.kl_agents.specs.Steps.{latest_poll};
 
 use super::{Book, POLL_BYTES, ends};
-use crate::agents::{kept_at, note};
-use crate::entry::{Entry, Opening};
-use crate::kept_open::put_one;
 use crate::refusal::Refusal;
+use kl_agents::{Entry, Opening, kept_at, note, put_one};
 use kl_history::Record;
 use kl_incr::Ticket;
 use kl_states::{AgentId, Nonce};

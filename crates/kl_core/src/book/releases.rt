@@ -12,18 +12,16 @@ ghost use Rattle.kl_core.specs.Books.{past, with_more};
 ghost use Rattle.kl_core.specs.Shares.{IsGivenShare, IsOpenShare, MayHand, RefusesRelease, Releases, release_makes, IsSettlement, OwnSettles, Settles, settle_makes};
 ghost use Rattle.kl_core.specs.Inner.Keeping.{Tells, terms_at};
 ghost use Rattle.kl_core.specs.Inner.Handing.{evidence_at, IsReady, release_with, HasHanded, v_of, public_of, contact_of, HasParts};
-ghost use Rattle.kl_core.specs.Inner.Reached.{Reserves};
+ghost use Rattle.kl_agents.specs.Reached.{Reserves};
 
 use super::{Book, ends};
-use crate::agents::{kept, kept_at, note, note_if, op_now};
-use crate::entry::{Entry, Handed};
-use crate::failing::post_if;
-use crate::kept_open::{put_one, take_one};
-use crate::reached::{Target, is_marked, reserve_mark};
 use crate::refusal::Refusal;
 use crate::settlement::Settlement;
-use crate::settling::{arrival, mark_if, only_if, settle_why, settled_if};
 use crate::share::Share;
+use kl_agents::{
+    Entry, Handed, Target, arrival, is_marked, kept, kept_at, mark_if, note, note_if, only_if,
+    op_now, post_if, put_one, reserve_mark, settle_why, settled_if, take_one,
+};
 use kl_appraise::Boot;
 use kl_history::Record;
 use kl_notice::Outbox;

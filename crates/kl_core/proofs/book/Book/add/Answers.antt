@@ -6,7 +6,7 @@ use Rattle.std.specs.Ordering.{nat_cmp}
 use Rattle.std.specs.Cmp.Lexicographic.{slice_cmp}
 use Rattle.kl_history.specs.Records.{past_of}
 use Rattle.kl_history.specs.declared.record.InstallWhy.TheVariants.{Add}
-use Rattle.kl_core.specs.Inner.Steps.{fresh}
+use Rattle.kl_agents.specs.Steps.{fresh}
 use Rattle.kl_core.proofs.Growing.{in_order, book_installed, book_restored, book_same_agents}
 use Rattle.kl_core.proofs.Downfalls.{told_on}
 use Rattle.kl_core.proofs.Holding.{handing_added, handing_restored, handing_same_agents}

@@ -1,14 +1,13 @@
 use Rattle.kl_core.specs.Books.{BookFields}
-use Rattle.std.proofs.Common.{rules, ℕ, ◌≡◌, ◌+◌, ◌≤◌, List, length, Some, None, ◌∙◌, arith, ap, refl, inl, subst}
+use Rattle.std.proofs.Common.{rules, ℕ, ◌+◌, ◌≤◌, List, length, Some, None, ◌∙◌, arith, ap, refl, inl}
 use Rattle.std.specs.Prelude.{is_some}
 use Rattle.std.specs.BTreeMap.{Updates, btree_map_len}
 use Rattle.std.specs.Ordering.{nat_cmp}
 use Rattle.std.specs.Cmp.Lexicographic.{slice_cmp}
 use Rattle.kl_history.specs.Records.{past_of}
-use Rattle.kl_history.specs.Legal.{IsBusy}
-use Rattle.kl_core.specs.declared.entry.Opening.{Opening}
+use Rattle.kl_agents.specs.declared.entry.Opening.{Opening}
 use Rattle.kl_core.specs.Begins.{MayPoll}
-use Rattle.kl_core.specs.Inner.Steps.{polled}
+use Rattle.kl_agents.specs.Steps.{polled}
 use Rattle.kl_core.proofs.Growing.{in_order, book_begun, book_roomier, next_is_free}
 use Rattle.kl_core.proofs.Standing.{entry_at, current_of, next_ticket}
 use Rattle.kl_core.proofs.Downfalls.{told_more}

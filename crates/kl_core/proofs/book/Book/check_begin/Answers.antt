@@ -1,4 +1,4 @@
-use Rattle.std.proofs.Common.{ap, rules}
+use Rattle.std.proofs.Common.{ap}
 use Rattle.kl_core.specs.Books.{BookFields}
 use Rattle.kl_history.specs.Records.{past_of}
 use Rattle.kl_core.proofs.Standing.{entry_at, polled_now, idle_now, may_poll, lacking_begin}

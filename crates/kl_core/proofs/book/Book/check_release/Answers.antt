@@ -3,7 +3,7 @@ use Rattle.std.proofs.lemmas.Bool.{both_ways}
 use Rattle.kl_history.specs.Records.{past_of}
 use Rattle.kl_states.specs.Ops.{is_owed}
 use Rattle.kl_core.specs.Books.{BookFields}
-use Rattle.kl_core.specs.Inner.Steps.{op_of}
+use Rattle.kl_agents.specs.Steps.{op_of}
 use Rattle.kl_core.proofs.Standing.{entry_at}
 use Rattle.kl_core.proofs.Giving.{is_in, is_owed_to, is_awaited, may_hand}
 use Rattle.kl_core.proofs.book.Book.check_release.Goals as goal

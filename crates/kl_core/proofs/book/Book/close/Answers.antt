@@ -9,9 +9,9 @@ use Rattle.kl_history.specs.Records.{past_of, own}
 use Rattle.kl_history.specs.LookBacks.{installed}
 use Rattle.kl_history.specs.States.{is_current, HasReached}
 use Rattle.kl_core.specs.Inner.Keeping.{Tells}
-use Rattle.kl_core.specs.Inner.Settling.{only_if}
+use Rattle.kl_agents.specs.Settling.{only_if}
 use Rattle.kl_core.specs.Inner.Closing.{close_record, close_boot, after_close}
-use Rattle.kl_core.specs.Inner.Steps.{NotedIf}
+use Rattle.kl_agents.specs.Steps.{NotedIf}
 use Rattle.kl_core.proofs.Standing.{has_op}
 use Rattle.kl_core.proofs.Growing.{in_order}
 use Rattle.kl_core.proofs.Ending.{opening_of}

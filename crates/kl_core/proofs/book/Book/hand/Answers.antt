@@ -5,12 +5,12 @@ use Rattle.std.specs.Ordering.{nat_cmp}
 use Rattle.std.specs.Cmp.Lexicographic.{slice_cmp}
 use Rattle.kl_history.specs.Records.{past_of}
 use Rattle.kl_core.specs.Books.{BookFields}
-use Rattle.kl_core.specs.declared.entry.Handed.{Handed}
-use Rattle.kl_core.specs.declared.reached.Target.{Target}
+use Rattle.kl_agents.specs.declared.entry.Handed.{Handed}
+use Rattle.kl_agents.specs.declared.reached.Target.{Target}
 use Rattle.kl_core.specs.Inner.Keeping.{IsBook}
 use Rattle.kl_core.specs.Inner.Handing.{IsReady, release_with}
-use Rattle.kl_core.specs.Inner.Reached.{target_of, Reserves}
-use Rattle.kl_core.specs.Inner.Steps.{handed}
+use Rattle.kl_agents.specs.Reached.{target_of, Reserves}
+use Rattle.kl_agents.specs.Steps.{handed}
 use Rattle.kl_core.proofs.Standing.{entry_at}
 use Rattle.kl_core.proofs.Growing.{in_order, book_roomier}
 use Rattle.kl_core.proofs.Downfalls.{told_more}

@@ -1,5 +1,5 @@
 use Rattle.kl_history.specs.Records.{past_of}
-use Rattle.kl_core.proofs.FirstDue.{pick_answers}
+use Rattle.kl_core.proofs.Picked.{pick_answers}
 use Rattle.kl_core.proofs.book.Book.pick.Goals as goal
 
 pub returns : goal.returns

@@ -6,7 +6,7 @@ use Rattle.std.specs.BTreeMap.{Updates}
 use Rattle.std.specs.Ordering.{nat_cmp}
 use Rattle.std.specs.Cmp.Lexicographic.{slice_cmp}
 use Rattle.kl_history.specs.Records.{past_of}
-use Rattle.kl_core.specs.Inner.Steps.{renewed}
+use Rattle.kl_agents.specs.Steps.{renewed}
 use Rattle.kl_core.proofs.Standing.{entry_at}
 use Rattle.kl_core.proofs.Growing.{in_order, book_reactivated}
 use Rattle.kl_core.proofs.Downfalls.{told_on}

@@ -1,7 +1,7 @@
 use Rattle.kl_core.specs.Books.{BookFields}
 use Rattle.std.proofs.Common.{rules, ◌+◌, length, refl, arith, ap}
 use Rattle.std.proofs.lemmas.Option.{none-some}
-use Rattle.kl_core.specs.Inner.Steps.{renewed}
+use Rattle.kl_agents.specs.Steps.{renewed}
 use Rattle.kl_core.proofs.Standing.{entry_at}
 use Rattle.kl_core.proofs.Holding.{one_less, handing_changed, kept_of, terms_of_entry}
 use Rattle.std.proofs.Common.{Some}

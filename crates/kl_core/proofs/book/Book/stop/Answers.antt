@@ -1,7 +1,7 @@
 use Rattle.kl_core.specs.Books.{BookFields}
 use Rattle.std.proofs.Common.{rules, arith, ap, refl, inl}
 use Rattle.kl_history.specs.Records.{past_of}
-use Rattle.kl_core.specs.Inner.Steps.{stopped}
+use Rattle.kl_agents.specs.Steps.{stopped}
 use Rattle.kl_core.proofs.Standing.{entry_at}
 use Rattle.kl_core.proofs.Growing.{in_order, book_stopped}
 use Rattle.kl_core.proofs.Downfalls.{told_on}

@@ -3,10 +3,10 @@ use Rattle.std.specs.Prelude.{ℕ, ◌+◌, ◌*◌, ◌^◌, min, Bool, true, �
 use Rattle.std.specs.Option.{option_map_or}
 use Rattle.std.specs.Ordering.{nat_cmp}
 use Rattle.std.specs.BTreeMap.{BTreeMap, get}
-use Rattle.kl_core.specs.declared.entry.Entry.{Entry}
-use Rattle.kl_core.specs.declared.entry.Begun.{Begun}
-use Rattle.kl_core.specs.declared.entry.Opening.{Opening}
-use Rattle.kl_core.specs.declared.picking.Due.{Due}
+use Rattle.kl_agents.specs.declared.entry.Entry.{Entry}
+use Rattle.kl_agents.specs.declared.entry.Begun.{Begun}
+use Rattle.kl_agents.specs.declared.entry.Opening.{Opening}
+use Rattle.kl_agents.specs.declared.picking.Due.{Due}
 
 -- the moment from which an agent is due
 abbrev pub due_of : Entry → ℕ

@@ -2,10 +2,10 @@
 
 ghost use Rattle.std.specs.Prelude.{◌≡◌, true, OnOk, OnErr, Some};
 ghost use Rattle.std.specs.BTreeMap.{Updates, IsUnchanged};
-ghost use Rattle.kl_core.specs.Inner.Reached.{is_marked, has_place, target_of, Reserves, target_cmp};
+ghost use Rattle.kl_agents.specs.Reached.{is_marked, has_place, target_of, Reserves, target_cmp};
 
 use kl_appraise::Boot;
-use kl_policy::Memory;
+use kl_base::Memory;
 use kl_states::AgentId;
 use std::collections::BTreeMap;
 use std::mem::size_of;

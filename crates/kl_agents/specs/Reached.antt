@@ -6,7 +6,7 @@ use Rattle.std.specs.Ordering.{nat_cmp, ordering_then}
 use Rattle.std.specs.Cmp.Lexicographic.{slice_cmp}
 use Rattle.std.specs.BTreeMap.{BTreeMap, get}
 use Rattle.kl_appraise.specs.declared.judged.Boot.{Boot}
-use Rattle.kl_core.specs.declared.reached.Target.{Target}
+use Rattle.kl_agents.specs.declared.reached.Target.{Target}
 
 -- by agent, then by the generation with which it was added, then by boot
 abbrev pub target_cmp : Target → Target → Ordering

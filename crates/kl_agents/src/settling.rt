@@ -2,8 +2,8 @@
 
 ghost use Rattle.std.specs.Prelude.{◌≡◌, ◌≤◌, true, IfSome, Some};
 ghost use Rattle.std.specs.Option.{option_map};
-ghost use Rattle.kl_core.specs.Inner.Reached.{has_place};
-ghost use Rattle.kl_core.specs.Inner.Settling.{settled_by, arrival, MarkedIf, only_if, settle_why};
+ghost use Rattle.kl_agents.specs.Reached.{has_place};
+ghost use Rattle.kl_agents.specs.Settling.{settled_by, arrival, MarkedIf, only_if, settle_why};
 
 use crate::entry::{Entry, Handed};
 use crate::reached::{Target, mark};

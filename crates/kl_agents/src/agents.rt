@@ -5,13 +5,11 @@ ghost use Rattle.std.specs.Option.{option_map};
 ghost use Rattle.std.specs.Ordering.{nat_cmp};
 ghost use Rattle.std.specs.Cmp.Lexicographic.{slice_cmp};
 ghost use Rattle.std.specs.BTreeMap.{get, btree_map_len, Updates, IsUnchanged};
-ghost use Rattle.kl_core.specs.Inner.Steps.{fresh, renewed, op_of, NotedIf};
-ghost use Rattle.kl_core.specs.Inner.Closing.{after_close};
-ghost use Rattle.kl_core.specs.Inner.Settling.{only_if};
+ghost use Rattle.kl_agents.specs.Steps.{fresh, renewed, op_of, NotedIf};
+ghost use Rattle.kl_agents.specs.Settling.{only_if};
 
-use crate::closing::Close;
 use crate::entry::Entry;
-use kl_policy::Memory;
+use kl_base::Memory;
 use kl_states::{AgentId, Op};
 use std::collections::BTreeMap;
 
@@ -107,23 +105,6 @@ pub fn note_if(agents: &mut BTreeMap<AgentId, Entry>, agent: &AgentId, entry: Op
     match entry {
         Some(entry) => note(agents, agent, entry),
         None => {},
-    }
-}
-
-/// What is kept of an agent after a close, where that is current.
-pub fn closed_if(
-    entry: Option<Entry>,
-    poll: u64,
-    place: usize,
-    reached: bool,
-    by: &Close,
-) -> Option<Entry>
-    requires { IfSome entry (λ e. e.losses < 5) }
-    ensures { result ≡ option_map (after_close poll place reached by.now) entry }
-{
-    match entry {
-        Some(entry) => Some(by.entry_after(poll, place, reached, entry)),
-        None => None,
     }
 }
 

@@ -8,11 +8,11 @@ use Rattle.std.specs.Ordering.{nat_cmp, is_eq, ordering_then}
 use Rattle.std.specs.Cmp.Lexicographic.{slice_cmp}
 use Rattle.std.specs.BTreeMap.{BTreeMap, get, Updates}
 use Rattle.std.proofs.lemmas.Map.Text.{is_eq-slice_cmp}
-use Rattle.std.proofs.lemmas.Bool.{and_parts, cond-true, cond-false, cases_eq, eqb-true, eq-eqb, both_ways}
+use Rattle.std.proofs.lemmas.Bool.{and_parts, cond-true, cond-false, cases_eq, both_ways}
 use Rattle.std.proofs.lemmas.Grind.{common_steps}
 use Rattle.std.proofs.lemmas.Slice.Eq.{bytes_eq-Decides}
-use Rattle.kl_core.specs.declared.reached.Target.{Target}
-use Rattle.kl_core.specs.Inner.Reached.{target_cmp, has_place, is_marked, Reserves, MarksAt}
+use Rattle.kl_agents.specs.declared.reached.Target.{Target}
+use Rattle.kl_agents.specs.Reached.{target_cmp, has_place, is_marked, Reserves, MarksAt}
 
 is_eq-then : (x y : Ordering) → is_eq (ordering_then x y) ≡ (is_eq x && is_eq y)
 is_eq-then Less y = refl

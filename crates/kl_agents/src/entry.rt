@@ -2,9 +2,9 @@
 
 ghost use Rattle.std.specs.Prelude.{◌≡◌, ◌*◌, ◌^◌, ◌<◌, ◌≤◌, min};
 ghost use Rattle.kl_history.specs.Notices.{has_failed};
-ghost use Rattle.kl_core.specs.Inner.Steps.{fresh, renewed, stopped, polled, lost, found, handed, is_handed, is_hit, settled, passed_by, is_due, live_op, op_of};
+ghost use Rattle.kl_agents.specs.Steps.{fresh, renewed, stopped, polled, lost, found, handed, is_handed, is_hit, settled, passed_by, is_due, live_op, op_of};
 ghost use Rattle.kl_appraise.specs.Kept.{from_of};
-ghost use Rattle.kl_core.specs.Inner.Picking.{due_of};
+ghost use Rattle.kl_agents.specs.Picking.{due_of};
 
 use kl_appraise::Boot;
 use kl_incr::{Kept, Outcome as Finding};

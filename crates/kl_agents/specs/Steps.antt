@@ -1,5 +1,5 @@
--- What a book's parts do.
-use Rattle.std.specs.Prelude.{◌≡◌, ℕ, ◌+◌, Bool, true, false, not, ◌&&◌, ◌||◌, if◌then◌else◌, ◌==◌, List, Option, None, Some, is_some}
+-- What is kept of an agent, and what each event makes of it.
+use Rattle.std.specs.Prelude.{ℕ, ◌+◌, Bool, false, not, ◌&&◌, ◌||◌, if◌then◌else◌, ◌==◌, List, Option, None, Some, is_some}
 use Rattle.std.specs.Option.{option_map, option_map_or}
 use Rattle.std.specs.Ordering.{nat_cmp}
 use Rattle.std.specs.Cmp.Lexicographic.{slice_cmp}
@@ -15,16 +15,10 @@ use Rattle.kl_states.specs.declared.outcome.Outcome.TheVariants.{Arrived, Missed
 use Rattle.kl_appraise.specs.Kept.{from_of}
 use Rattle.kl_appraise.specs.declared.kept.Kept.{Kept}
 use Rattle.kl_appraise.specs.declared.judged.Boot.{Boot}
-use Rattle.kl_core.specs.declared.entry.Handed.{Handed}
-use Rattle.kl_core.specs.declared.entry.Passed.{Passed}
-use Rattle.kl_history.specs.Records.{Past, own}
-use Rattle.kl_history.specs.LookBacks.{installed}
-use Rattle.kl_history.specs.Legal.{HasRoom, HasBytes}
-use Rattle.kl_core.specs.declared.entry.Begun.{Begun}
-use Rattle.kl_core.specs.declared.entry.Entry.{Entry}
-use Rattle.kl_core.specs.declared.refusal.Refusal.{Refusal}
-use Rattle.kl_core.specs.declared.refusal.Refusal.TheVariants.{NoAgent, WrongState, JournalRecords, JournalBytes}
-use Rattle.kl_core.specs.Endings.{HasEnded}
+use Rattle.kl_agents.specs.declared.entry.Handed.{Handed}
+use Rattle.kl_agents.specs.declared.entry.Passed.{Passed}
+use Rattle.kl_agents.specs.declared.entry.Begun.{Begun}
+use Rattle.kl_agents.specs.declared.entry.Entry.{Entry}
 
 -- the last poll of an agent, open or not
 abbrev pub latest_poll : Entry → Option ℕ
@@ -115,19 +109,6 @@ abbrev pub settled : Outcome → Bool → Bool → Entry → Entry
 settled Arrived current hit e = record e { missed = if current then 0 else e.missed; reached = e.reached || hit }
 settled Missed current hit e = if current then missed_once e else e
 settled (Withdrawn why) current hit e = e
-
--- why the journal has no room for so many records and bytes more, none where it has
-abbrev pub Lacks : Past → ℕ → ℕ → Option Refusal → Type 0
-Lacks past records bytes None = HasRoom past records × HasBytes past bytes
-Lacks past records bytes (Some JournalRecords) = ¬ (HasRoom past records)
-Lacks past records bytes (Some JournalBytes) = HasRoom past records × (¬ (HasBytes past bytes))
-Lacks past records bytes (Some _) = ⊥
-
--- the agent is not installed, or not live
-abbrev pub IsBarred : Past → List ℕ → Refusal → Type 0
-IsBarred past a NoAgent = installed (own past a) ≡ None
-IsBarred past a (WrongState op) = HasEnded past a (WrongState op)
-IsBarred past a _ = ⊥
 
 -- what is kept of an agent changes where there is something new
 abbrev pub NotedIf : BTreeMap (List ℕ) Entry → BTreeMap (List ℕ) Entry → List ℕ → Option Entry → Type 0

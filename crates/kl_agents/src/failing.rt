@@ -2,7 +2,7 @@
 
 ghost use Rattle.std.specs.Prelude.{◌≡◌, ◌≤◌, ◌+◌};
 ghost use Rattle.kl_history.specs.Notices.{with_failure};
-ghost use Rattle.kl_core.specs.Inner.Failing.{failure_of};
+ghost use Rattle.kl_agents.specs.Failing.{failure_of};
 
 use crate::entry::Entry;
 use kl_notice::{FailWhy, Outbox};

@@ -1,15 +1,15 @@
 -- What follows of how a release is settled.
-use Rattle.std.specs.Prelude.{◌≡◌, ℕ, Bool, true, if◌then◌else◌, List, Option, Some, None}
+use Rattle.std.specs.Prelude.{ℕ, Bool, true, if◌then◌else◌, Option, Some, None}
 use Rattle.std.specs.BTreeMap.{BTreeMap, Updates, IsUnchanged}
 use Rattle.kl_states.specs.declared.outcome.Outcome.{Outcome}
-use Rattle.kl_states.specs.declared.outcome.Outcome.TheVariants.{Arrived, Missed, Withdrawn}
+use Rattle.kl_states.specs.declared.outcome.Outcome.TheVariants.{Arrived, Missed}
 use Rattle.kl_notice.specs.declared.notice.FailWhy.{FailWhy}
 use Rattle.kl_notice.specs.declared.notice.FailWhy.TheVariants.{Undelivered}
-use Rattle.kl_core.specs.declared.entry.Entry.{Entry}
-use Rattle.kl_core.specs.declared.entry.Handed.{Handed}
-use Rattle.kl_core.specs.declared.reached.Target.{Target}
-use Rattle.kl_core.specs.Inner.Reached.{target_cmp, target_of}
-use Rattle.kl_core.specs.Inner.Steps.{is_handed, is_hit, settled}
+use Rattle.kl_agents.specs.declared.entry.Entry.{Entry}
+use Rattle.kl_agents.specs.declared.entry.Handed.{Handed}
+use Rattle.kl_agents.specs.declared.reached.Target.{Target}
+use Rattle.kl_agents.specs.Reached.{target_cmp, target_of}
+use Rattle.kl_agents.specs.Steps.{is_handed, is_hit, settled}
 
 -- what is kept of an agent once this release of it was settled, current or not
 abbrev pub settled_by : ℕ → Handed → Outcome → Bool → Entry → Entry

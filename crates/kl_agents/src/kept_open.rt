@@ -4,7 +4,7 @@ ghost use Rattle.std.specs.Prelude.{◌≡◌, ◌+◌, Some, None, IsSome, OnOk
 ghost use Rattle.std.specs.Ordering.{nat_cmp};
 ghost use Rattle.std.specs.BTreeMap.{get, btree_map_len, Updates, IsUnchanged};
 
-use kl_policy::Memory;
+use kl_base::Memory;
 use std::collections::BTreeMap;
 
 /// Keeps one more, whose number is not kept yet.

@@ -6,8 +6,8 @@ ghost use Rattle.std.specs.List.Sorted.{IsStrictlySortedBy};
 ghost use Rattle.std.specs.Map.{keys_of};
 ghost use Rattle.std.specs.Ordering.{nat_cmp};
 ghost use Rattle.std.specs.Cmp.Lexicographic.{slice_cmp};
-ghost use Rattle.kl_core.specs.declared.picking.Due.{Due};
-ghost use Rattle.kl_core.specs.Inner.Picking.{due_of, waits, is_free, is_sooner, first_due};
+ghost use Rattle.kl_agents.specs.declared.picking.Due.{Due};
+ghost use Rattle.kl_agents.specs.Picking.{due_of, waits, is_free, is_sooner, first_due};
 
 use crate::entry::{Entry, Opening};
 use kl_states::AgentId;

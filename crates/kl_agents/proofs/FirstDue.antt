@@ -17,10 +17,15 @@ use Rattle.std.proofs.lemmas.Option.{same_Some, none-some}
 use Rattle.kl_agents.specs.declared.entry.Entry.{Entry}
 use Rattle.kl_agents.specs.declared.entry.Opening.{Opening}
 use Rattle.kl_agents.specs.declared.picking.Due.{Due}
-use Rattle.kl_agents.specs.Picking.{due_of, waits, is_sooner, sooner, first_of, first_due}
+use Rattle.kl_agents.specs.Picking.{due_of, waits, is_sooner, sooner, first_due}
 use Rattle.kl_agents.proofs.Texts.{same_or_not, eq_yes}
 
 -- ---- of two that are due the first
+-- of one that may be due, and what may be due behind it, the first
+abbrev pub first_of : Option Due → Option Due → Option Due
+first_of None other = other
+first_of (Some d) other = Some (sooner d other)
+
 pub by_test : (b : Bool) (P : Type 0) → (b ≡ true → P) → (b ≡ false → P) → P
 by_test true P yes' no' = yes' refl
 by_test false P yes' no' = no' refl

@@ -12,7 +12,7 @@ use Rattle.std.proofs.lemmas.Bool.{and_parts, cond-true, cond-false, cases_eq, b
 use Rattle.std.proofs.lemmas.Grind.{common_steps}
 use Rattle.std.proofs.lemmas.Slice.Eq.{bytes_eq-Decides}
 use Rattle.kl_agents.specs.declared.reached.Target.{Target}
-use Rattle.kl_agents.specs.Reached.{target_cmp, has_place, is_marked, Reserves, MarksAt}
+use Rattle.kl_agents.specs.Reached.{target_cmp, has_place, is_marked, Reserves}
 
 is_eq-then : (x y : Ordering) → is_eq (ordering_then x y) ≡ (is_eq x && is_eq y)
 is_eq-then Less y = refl
@@ -85,6 +85,12 @@ reserved m n t none up = record {
     | inr ne ↦ ap (λ o. unwrap_or o false) (at_other m n t s (Some false) up ne)
   ];
 }
+
+-- a mark more, and the same places
+pub record MarksAt (old new : BTreeMap Target Bool) (t : Target) : Type 0 where
+  pub marked : is_marked new t ≡ true
+  pub places : (s : Target) → has_place old s ≡ true → has_place new s ≡ true
+  pub others : (s : Target) → s ≢ t → is_marked new s ≡ is_marked old s
 
 pub marked : (m n : BTreeMap Target Bool) (t : Target) → Updates target_cmp m n t (Some true) → MarksAt m n t
 marked m n t up = record {

@@ -30,10 +30,6 @@ abbrev pub sooner : Due → Option Due → Due
 sooner d None = d
 sooner d (Some other) = if ltb other.since d.since then other else d
 
-abbrev pub first_of : Option Due → Option Due → Option Due
-first_of None other = other
-first_of (Some d) other = Some (sooner d other)
-
 -- the first that is due of these
 abbrev pub first_due : BTreeMap ℕ Opening → ℕ → List (List ℕ × Entry) → Option Due
 first_due openings now [] = None

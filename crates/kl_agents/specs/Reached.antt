@@ -1,5 +1,5 @@
 -- Which boots of agents are marked as reached.
-use Rattle.std.specs.Prelude.{◌≡◌, ◌≢◌, ℕ, List, Bool, true, false, is_some}
+use Rattle.std.specs.Prelude.{◌≡◌, ℕ, List, Bool, true, false, is_some}
 use Rattle.std.specs.Option.{unwrap_or}
 use Rattle.std.specs.declared.cmp.Ordering.{Ordering}
 use Rattle.std.specs.Ordering.{nat_cmp, ordering_then}
@@ -29,9 +29,3 @@ pub record Reserves (old new : BTreeMap Target Bool) (t : Target) : Type 0 where
   pub place : has_place new t ≡ true
   pub places : (s : Target) → has_place old s ≡ true → has_place new s ≡ true
   pub marks : (s : Target) → is_marked new s ≡ is_marked old s
-
--- a mark more, and the same places
-pub record MarksAt (old new : BTreeMap Target Bool) (t : Target) : Type 0 where
-  pub marked : is_marked new t ≡ true
-  pub places : (s : Target) → has_place old s ≡ true → has_place new s ≡ true
-  pub others : (s : Target) → s ≢ t → is_marked new s ≡ is_marked old s

@@ -9,11 +9,11 @@ use Rattle.kl_agents.specs.declared.entry.Entry.{Entry}
 use Rattle.kl_agents.specs.declared.entry.Handed.{Handed}
 use Rattle.kl_agents.specs.declared.reached.Target.{Target}
 use Rattle.kl_agents.specs.Reached.{target_cmp, target_of}
-use Rattle.kl_agents.specs.Steps.{is_handed, is_hit, settled}
+use Rattle.kl_agents.specs.Steps.{is_handed, reaches_boot, settled}
 
 -- what is kept of an agent once this release of it was settled, current or not
 abbrev pub settled_by : ℕ → Handed → Outcome → Bool → Entry → Entry
-settled_by n h o current e = settled o current (is_hit n h e) e
+settled_by n h o current e = settled o current (reaches_boot n h e) e
 
 -- the boot that V reaches by how this release is settled, where that was made since its agent was added
 abbrev pub arrival : ℕ → Handed → Outcome → Option Entry → Option Target

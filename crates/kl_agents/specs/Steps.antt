@@ -97,8 +97,8 @@ abbrev pub is_handed : ℕ → Entry → Bool
 is_handed n e = option_map_or (λ m. m == n) e.handed false
 
 -- V, once this release of the agent arrives, has reached the boot of its last pass
-abbrev pub is_hit : ℕ → Handed → Entry → Bool
-is_hit n h e = option_map_or (λ (k : Passed). is_handed n e && is_boot k.boot h.pass.boot) e.pass false
+abbrev pub reaches_boot : ℕ → Handed → Entry → Bool
+reaches_boot n h e = option_map_or (λ (k : Passed). is_handed n e && is_boot k.boot h.pass.boot) e.pass false
 
 -- what is kept of an agent after a current delivery of V was missed: the fifth in a row fails it
 abbrev pub missed_once : Entry → Entry

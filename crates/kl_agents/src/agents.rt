@@ -1,6 +1,6 @@
 //! What is kept of installed agents, changed at one of them.
 
-ghost use Rattle.std.specs.Prelude.{◌≡◌, ◌+◌, ◌<◌, Some, None, IsSome, IfSome, OnOk, OnErr};
+ghost use Rattle.std.specs.Prelude.{◌≡◌, ◌+◌, Some, None, IsSome, IfSome, OnOk, OnErr};
 ghost use Rattle.std.specs.Option.{option_map};
 ghost use Rattle.std.specs.Ordering.{nat_cmp};
 ghost use Rattle.std.specs.Cmp.Lexicographic.{slice_cmp};
@@ -89,7 +89,7 @@ pub fn renew(
     generation: u64,
     place: usize,
 )
-    requires { IsSome (get (slice_cmp nat_cmp) agents.old agent.now) }
+    requires { get (slice_cmp nat_cmp) agents.old agent.now ≡ Some entry.now }
     ensures updates { Updates (slice_cmp nat_cmp) agents.old agents.new agent.now (Some (renewed generation place entry.now)) }
     ensures len { btree_map_len agents.new ≡ btree_map_len agents.old }
 {

@@ -2,7 +2,7 @@
 
 ghost use Rattle.std.specs.Prelude.{◌≡◌, ◌*◌, ◌^◌, ◌<◌, ◌≤◌, min};
 ghost use Rattle.kl_history.specs.Notices.{has_failed};
-ghost use Rattle.kl_agents.specs.Steps.{fresh, renewed, stopped, polled, lost, found, handed, is_handed, is_hit, settled, passed_by, is_due, live_op, op_of};
+ghost use Rattle.kl_agents.specs.Steps.{fresh, renewed, stopped, polled, lost, found, handed, is_handed, reaches_boot, settled, passed_by, is_due, live_op, op_of};
 ghost use Rattle.kl_appraise.specs.Kept.{from_of};
 ghost use Rattle.kl_agents.specs.Picking.{due_of};
 
@@ -23,7 +23,7 @@ const FIRST_WAIT: u64 = 2_000;
 /// What is kept of an installed agent, since it was installed.
 #[derive(Clone, Copy)]
 pub struct Entry {
-    // What `pick` reads of every agent stands first, so that it lies close together.
+    // What `first_due` reads of every agent stands first, so that it lies close together.
     /// Its last poll, open or not.
     pub latest: Option<Begun>,
     /// How many polls were lost in a row since the last finding.
@@ -151,6 +151,7 @@ impl Entry {
         self.has_v && self.pass.is_some() && !self.reached
     }
 
+    /// The state of the agent while it is live.
     fn live_op(&self) -> Op
         ensures { result ≡ live_op self.now }
     {
@@ -265,8 +266,8 @@ impl Entry {
     }
 
     /// Whether V, once this release of the agent arrives, has reached the boot of the last pass.
-    pub fn is_hit(&self, number: u64, handed: &Handed) -> bool
-        ensures { result ≡ is_hit number handed.now self.now }
+    pub fn reaches_boot(&self, number: u64, handed: &Handed) -> bool
+        ensures { result ≡ reaches_boot number handed.now self.now }
     {
         match self.pass {
             Some(pass) => self.is_handed(number) && pass.boot == handed.pass.boot,

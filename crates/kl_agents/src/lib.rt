@@ -18,5 +18,5 @@ pub use entry::{Begun, Entry, Handed, Opening, Passed};
 pub use failing::post_if;
 pub use kept_open::{put_one, take_one};
 pub use picking::{Due, first_due};
-pub use reached::{Target, is_marked, mark, reserve_mark};
+pub use reached::{Target, is_marked, reserve_mark};
 pub use settling::{arrival, mark_if, only_if, settle_why, settled_if};

@@ -64,7 +64,7 @@ pub fn first_due(
     for (agent, entry) in agents.iter() {
         if precedes(openings, now, entry, &first) {
             let since = entry.due();
-            // Nothing is due before moment 0, as an agent is that was never polled since it was installed.
+            // An agent that was not polled since its install is due since moment 0, and none is due sooner.
             if since == 0 {
                 return Some(*agent);
             }

@@ -23,7 +23,7 @@ pub fn settled_if(
     ensures { result ≡ option_map (settled_by number handed.now outcome current) entry }
 {
     match entry {
-        Some(entry) => Some(entry.settled(outcome, current, entry.is_hit(number, handed))),
+        Some(entry) => Some(entry.settled(outcome, current, entry.reaches_boot(number, handed))),
         None => None,
     }
 }

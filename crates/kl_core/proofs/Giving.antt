@@ -68,10 +68,6 @@ module _ (H : History) (past : Past) (a : List ℕ) (e : Entry) (entry : IsEntry
   now_due : IsDue (own past a)
   now_due = owed_due (own past a) may.0.0 may.0.1.1 may.0.2
 
-  -- there is a pass
-  pub has_pass : ¬ (e.pass ≡ None)
-  has_pass none = none-some now_due.pass (sym (entry.says.no_pass none) ∙ now_due.passed)
-
   -- the release rule is met
   may_release : (k : Passed) → e.pass ≡ Some k → MayRelease past (releases_made past + 1) a e.generation k.poll
   may_release k passed =
@@ -107,12 +103,6 @@ module _ (H : History) (past : Past) (a : List ℕ) (e : Entry) (entry : IsEntry
 
 -- ---- the share
 module _ (H : History) (past : Past) (h : Handed) (ready : IsReady H past h) where
-  pub some_v : IsSome (option_and_then v_of (terms_at H h.place))
-  some_v = ap (λ (o : Option TermsFields). is_some (option_and_then v_of o)) ready.sources.place_is ∙ ready.sources.has_v
-
-  pub some_evidence : IsSome (evidence_at H h.pass.place)
-  some_evidence = ap is_some ready.sources.passed.1
-
   -- the rule under the number that the release gets
   pub rule_at : (n : ℕ) → n ≡ releases_made past + 1 → MayRelease past n h.agent h.generation h.pass.poll
   rule_at n next = subst (λ (m : ℕ). MayRelease past m h.agent h.generation h.pass.poll) (sym next) ready.rule

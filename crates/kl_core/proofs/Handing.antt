@@ -32,7 +32,7 @@ use Rattle.kl_core.specs.Inner.Keeping.{Tells}
 use Rattle.kl_agents.specs.Reached.{target_cmp, target_of, has_place, is_marked, Reserves}
 use Rattle.kl_core.specs.Inner.Handing.{evidence_by, evidence_at, IsPlaced, HasSources, IsHanded, IsReady, release_with, HasHanded, Reaches, IsHanding}
 use Rattle.kl_agents.specs.Settling.{settled_by, arrival, MarkedIf}
-use Rattle.kl_agents.specs.Steps.{NotedIf, handed, is_boot, is_handed, is_hit, settled}
+use Rattle.kl_agents.specs.Steps.{NotedIf, handed, is_boot, is_handed, reaches_boot, settled}
 use Rattle.kl_agents.proofs.Texts.{eq_yes, eq_no}
 use Rattle.kl_core.proofs.OneMore.{counted_as, slice_get-front, slice_get-seam, terms_at-front, Calm, quiet_release}
 use Rattle.kl_core.proofs.Keeping.{agents_at}
@@ -398,9 +398,9 @@ module _ (H : History) (past : Past) (agents : BTreeMap (List ℕ) Entry) (held 
 
   -- what is kept says whether V has reached the boot of the last pass, once it arrived
   pub now_reached : (e : Entry) (c : Bool) (k : Passed) → get (slice_cmp nat_cmp) agents h.agent ≡ Some e → e.pass ≡ Some k → Tells e.reached (HasReached (own past h.agent) k.boot)
-      → Tells (e.reached || is_hit n h e) (HasReached (Settled n Arrived c ∷ own past h.agent) k.boot)
+      → Tells (e.reached || reaches_boot n h e) (HasReached (Settled n Arrived c ∷ own past h.agent) k.boot)
   now_reached e c k at passed tells =
-      let hit : is_hit n h e ≡ (is_handed n e && is_boot k.boot h.pass.boot) =
+      let hit : reaches_boot n h e ≡ (is_handed n e && is_boot k.boot h.pass.boot) =
       ap (λ o. option_map_or (λ (x : Passed). is_handed n e && is_boot x.boot h.pass.boot) o false) passed in
       subst (λ (x : Bool). Tells (e.reached || x) (HasReached (Settled n Arrived c ∷ own past h.agent) k.boot)) (sym hit)
       (or_tells e.reached (is_handed n e && is_boot k.boot h.pass.boot) _ _ tells (arrived_at e k.boot at))
@@ -517,7 +517,7 @@ module _ (H : History) (past : Past) (agents : BTreeMap (List ℕ) Entry) (held 
   reaches_its : (f : Entry) → option_map (settled_by n h o c) entry ≡ Some f → (e : Entry) → entry ≡ Some e → Reaches (H ++ s ∷ []) (s ∷ past) marks' drawn h.agent f
   reaches_its f same e is =
       let before = handing.agents_reach h.agent e (kept ∙ is) in
-      let stays = stays_handed o c (is_hit n h e) e in
+      let stays = stays_handed o c (reaches_boot n h e) e in
       subst (λ (x : Entry). Reaches (H ++ s ∷ []) (s ∷ past) marks' drawn h.agent x) (same_Some _ f (sym (ap (λ x. option_map (settled_by n h o c) x) is) ∙ same)) (record {
         added_drawn = let le = before.added_drawn in let e = stays.added in omega arith;
         pass_placed = λ k has. placed_stays H past s k legal (before.pass_placed k (sym stays.pass ∙ has));
@@ -542,10 +542,6 @@ module _ (H : History) (past : Past) (agents : BTreeMap (List ℕ) Entry) (held 
         awaited = λ m it. before.awaited m (awaited_before s past b m refl it);
         handed = λ m it. let old = before.handed m it in (old.0, ap (handed_for m) theirs ∙ old.1);
       }
-
-  some_entry : (x : Option Entry) (f : Entry) → option_map (settled_by n h o c) x ≡ Some f → (e : Entry) × (x ≡ Some e)
-  some_entry (Some e) f is = (e, refl)
-  some_entry None f is = cc
 
   agents_settled : (agents' : BTreeMap (List ℕ) Entry) → NotedIf agents agents' h.agent (option_map (settled_by n h o c) entry) → (P : List ℕ → Entry → Type 0)
       → ((e : Entry) → entry ≡ Some e → P h.agent (settled_by n h o c e)) → ((a : List ℕ) (f : Entry) → bytes_eq a h.agent ≡ false → get (slice_cmp nat_cmp) agents a ≡ Some f → P a f)
@@ -572,7 +568,7 @@ module _ (H : History) (past : Past) (agents : BTreeMap (List ℕ) Entry) (held 
         (λ m _ held_m it.
         agents_settled agents' noted (λ a f. f.handed ≡ Some m → has_place marks' (target_of a f.added g.pass.boot) ≡ true)
         (λ e is_e has_m.
-        let stays = stays_handed o c (is_hit n h e) e in
+        let stays = stays_handed o c (reaches_boot n h e) e in
         ap (λ x. has_place marks' (target_of h.agent x g.pass.boot)) stays.added
         ∙ places_kept marks marks' (arrival n h o entry) up _ (handing.places h.agent e m g (kept ∙ is_e) (sym stays.handed ∙ has_m) held_m))
         (λ b k _ at_b has_m. places_kept marks marks' (arrival n h o entry) up _ (handing.places b k m g at_b has_m held_m))

@@ -100,9 +100,6 @@ calm_begin past p a g n at from begun next = record {
 }
 
 -- ---- the numbers drawn
-pub numbers_nil : Numbers []
-numbers_nil = record { begun_within = λ q s is. cc; under_within = λ q s is. cc; named_within = λ g t is. cc }
-
 pub numbers_quiet : (past : Past) (r : Record) → Quiet past r → Numbers past → Numbers (r ∷ past)
 numbers_quiet past r quiet numbers =
     let polls_same : polls (r ∷ past) ≡ polls past = counted is_begin r past ∙ ap (λ b. cond b 1 0 + polls past) quiet.no_begin ∙ omega arith in

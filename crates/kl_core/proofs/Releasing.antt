@@ -33,7 +33,7 @@ use Rattle.kl_core.specs.Inner.Keeping.{Says, IsEntry, HasEntry, IsBook}
 use Rattle.kl_agents.specs.Failing.{failure_of}
 use Rattle.kl_core.specs.Inner.Handing.{IsHanded}
 use Rattle.kl_agents.specs.Settling.{settled_by, only_if, settle_why}
-use Rattle.kl_agents.specs.Steps.{NotedIf, handed, is_hit, settled}
+use Rattle.kl_agents.specs.Steps.{NotedIf, handed, reaches_boot, settled}
 use Rattle.kl_agents.proofs.Texts.{eq_yes, same_or_not}
 use Rattle.kl_core.proofs.OneMore.{counted, quiet_release, quiet_settled, numbers_quiet}
 use Rattle.kl_core.proofs.Ours.{says_released, NowReached, says_settled, says_settled_late}
@@ -127,21 +127,21 @@ module _ (H : History) (past : Past) (n : ℕ) (o : Outcome) (now : Bool) (h : H
 
   -- what the agent's own records say from then on
   pub says_settled_now : (e : Entry) (t : TermsFields) → Says (own past h.agent) t e
-      → NowReached (own past h.agent) n (is_hit n h e) e
+      → NowReached (own past h.agent) n (reaches_boot n h e) e
       → Says (own (s ∷ past) h.agent) t (settled_by n h o now e)
   says_settled_now e t says reached = subst (λ (own_past : Past). Says own_past t (settled_by n h o now e)) (sym its_own) (by_now now refl) where
     by_now : (b : Bool) → now ≡ b → Says (Settled n o b ∷ own past h.agent) t (settled_by n h o b e)
-    by_now true is = says_settled (own past h.agent) n o (is_hit n h e) t e reached says (live_now true is refl)
-    by_now false is = says_settled_late (own past h.agent) n o (is_hit n h e) t e reached says
+    by_now true is = says_settled (own past h.agent) n o (reaches_boot n h e) t e reached says (live_now true is refl)
+    by_now false is = says_settled_late (own past h.agent) n o (reaches_boot n h e) t e reached says
 
   -- what is kept of agents from then on
   pub entries_settled : (agents agents' : BTreeMap (List ℕ) Entry) (entry : Option Entry) → ((a : List ℕ) → HasEntry H past a (get (slice_cmp nat_cmp) agents a))
-      → get (slice_cmp nat_cmp) agents h.agent ≡ entry → ((e : Entry) → entry ≡ Some e → NowReached (own past h.agent) n (is_hit n h e) e)
+      → get (slice_cmp nat_cmp) agents h.agent ≡ entry → ((e : Entry) → entry ≡ Some e → NowReached (own past h.agent) n (reaches_boot n h e) e)
       → NotedIf agents agents' h.agent (option_map (settled_by n h o now) entry) → (a : List ℕ) → HasEntry (H ++ s ∷ []) (s ∷ past) a (get (slice_cmp nat_cmp) agents' a)
   entries_settled agents agents' (Some e) are kept reached noted =
       let quiet = quiet_settled past n o now in
       let was : IsEntry H past h.agent e = subst (λ x. HasEntry H past h.agent x) kept (are h.agent) in
-      let stays = stays_as o now (is_hit n h e) e in
+      let stays = stays_as o now (reaches_boot n h e) e in
       agents_at agents agents' h.agent (Some (settled_by n h o now e)) noted (λ b x. HasEntry (H ++ s ∷ []) (s ∷ past) b x)
       (entry_step H past s h.agent e (settled_by n h o now e) quiet.calm stays.generation stays.place stays.latest (λ q started is agent. refl) was
       (says_settled_now e was.with was.says (reached e refl)))
@@ -158,7 +158,7 @@ module _ (H : History) (past : Past) (n : ℕ) (o : Outcome) (now : Bool) (h : H
       ])
 
   -- the failure that it brings is that of what is kept of the agent from then on
-  pub settle_fails : (entry : Option Entry) → HasEntry H past h.agent entry → ((e : Entry) → entry ≡ Some e → NowReached (own past h.agent) n (is_hit n h e) e)
+  pub settle_fails : (entry : Option Entry) → HasEntry H past h.agent entry → ((e : Entry) → entry ≡ Some e → NowReached (own past h.agent) n (reaches_boot n h e) e)
       → failure past s ≡ failure_of h.agent (only_if now (option_map (settled_by n h o now) entry)) (settle_why o)
   settle_fails entry has reached = by_now now refl entry has reached where
     stale : now ≡ false → failure past s ≡ None
@@ -169,14 +169,14 @@ module _ (H : History) (past : Past) (n : ℕ) (o : Outcome) (now : Bool) (h : H
           absurd (false≢true (failure_current past (Settled n o false) f (ap (λ b. failure past (Settled n o b)) (sym is) ∙ it)))
 
     by_why : (e : Entry) → e.end ≡ None → (w : Option FailWhy) → settle_why o ≡ w → failure_of h.agent (Some (settled_by n h o now e)) (Some Undelivered) ≡ failure_of h.agent (Some (settled_by n h o now e)) w
-    by_why e live None none = ap (λ b. cond b (Some (record { agent = h.agent; generation = (settled_by n h o now e).generation; why = Undelivered })) None) (stands_still o now (is_hit n h e) e live none)
+    by_why e live None none = ap (λ b. cond b (Some (record { agent = h.agent; generation = (settled_by n h o now e).generation; why = Undelivered })) None) (stands_still o now (reaches_boot n h e) e live none)
     by_why e live (Some w) some = ap (λ x. failure_of h.agent (Some (settled_by n h o now e)) x) (undelivered o w some) where
       undelivered : (o : Outcome) (w : FailWhy) → settle_why o ≡ Some w → Some Undelivered ≡ Some w
       undelivered Missed w is = is
       undelivered Arrived w is = absurd (none-some w is)
       undelivered (Withdrawn x) w is = absurd (none-some w is)
 
-    by_now : (b : Bool) → now ≡ b → (entry : Option Entry) → HasEntry H past h.agent entry → ((e : Entry) → entry ≡ Some e → NowReached (own past h.agent) n (is_hit n h e) e)
+    by_now : (b : Bool) → now ≡ b → (entry : Option Entry) → HasEntry H past h.agent entry → ((e : Entry) → entry ≡ Some e → NowReached (own past h.agent) n (reaches_boot n h e) e)
         → failure past s ≡ failure_of h.agent (only_if now (option_map (settled_by n h o now) entry)) (settle_why o)
     by_now false is entry has reached = stale is ∙ ap (λ b. failure_of h.agent (only_if b (option_map (settled_by n h o now) entry)) (settle_why o)) (sym is)
     by_now true is None has reached =
@@ -190,7 +190,7 @@ module _ (H : History) (past : Past) (n : ℕ) (o : Outcome) (now : Bool) (h : H
 
   pub book_settled : (agents agents' : BTreeMap (List ℕ) Entry) (openings : BTreeMap ℕ Opening) (drawn begun weighs capacity waiting waiting' : ℕ) (entry : Option Entry)
       → IsBook H past agents openings drawn begun weighs capacity waiting → get (slice_cmp nat_cmp) agents h.agent ≡ entry
-      → ((e : Entry) → entry ≡ Some e → NowReached (own past h.agent) n (is_hit n h e) e)
+      → ((e : Entry) → entry ≡ Some e → NowReached (own past h.agent) n (reaches_boot n h e) e)
       → NotedIf agents agents' h.agent (option_map (settled_by n h o now) entry) → btree_map_len agents' ≡ btree_map_len agents → waiting' + 1 ≡ waiting
       → IsBook (H ++ s ∷ []) (s ∷ past) agents' openings drawn begun weighs capacity waiting'
   book_settled agents agents' openings drawn begun weighs capacity waiting waiting' entry book kept reached noted counts less =

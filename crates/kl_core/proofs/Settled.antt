@@ -29,7 +29,7 @@ use Rattle.kl_core.specs.Inner.Failing.{IsTold}
 use Rattle.kl_agents.specs.Reached.{has_place, target_of}
 use Rattle.kl_core.specs.Inner.Handing.{evidence_at, HasParts, IsHanded, HasHanded, IsHanding}
 use Rattle.kl_agents.specs.Settling.{settled_by, arrival, MarkedIf, only_if, settle_why}
-use Rattle.kl_agents.specs.Steps.{NotedIf, is_handed, is_hit, op_of}
+use Rattle.kl_agents.specs.Steps.{NotedIf, is_handed, reaches_boot, op_of}
 use Rattle.kl_core.proofs.OneMore.{quiet_settled}
 use Rattle.kl_core.proofs.Ours.{NowReached}
 use Rattle.kl_core.proofs.Standing.{entry_at, has_op}
@@ -139,7 +139,7 @@ module _ (H : History) (agents : BTreeMap (List ℕ) Entry) (openings : BTreeMap
     its_current : now ≡ is_current (own (past_of H) h.agent) h.generation
     its_current = current ∙ ap (λ (a : List ℕ). is_current (own (past_of H) a) s.generation) (sym same.agent) ∙ ap (is_current (own (past_of H) h.agent)) (sym same.generation)
 
-    reached : (e : Entry) → get (slice_cmp nat_cmp) agents h.agent ≡ Some e → NowReached (own (past_of H) h.agent) s.number (is_hit s.number h e) e
+    reached : (e : Entry) → get (slice_cmp nat_cmp) agents h.agent ≡ Some e → NowReached (own (past_of H) h.agent) s.number (reaches_boot s.number h e) e
     reached e at c k passed =
         now_reached H (past_of H) agents held marks drawn made s.number h handing book.legal open_one e c k at passed
         ((entry_at H (past_of H) h.agent (get (slice_cmp nat_cmp) agents h.agent) e (book.agents_are h.agent) at).says.reached_is k passed)

@@ -6,7 +6,7 @@ mod installs;
 mod polls;
 mod releases;
 
-ghost use Rattle.std.specs.Prelude.{◌≡◌, ◌↔◌, ◌≤◌, ◌<◌, ◌+◌, [], ℕ, IsTrue, IfOk, IfErr, IfSome, Some, None, IsSome, is_some, length, slice_get};
+ghost use Rattle.std.specs.Prelude.{◌≡◌, ◌↔◌, ◌≤◌, ◌<◌, ◌+◌, [], IsTrue, IfOk, IfErr, IfSome, Some, None, IsSome, is_some, length, slice_get};
 ghost use Rattle.std.specs.Option.{option_copied};
 ghost use Rattle.kl_history.specs.Records.{own, is_open};
 ghost use Rattle.std.specs.BTreeMap.{btree_map_len};
@@ -22,7 +22,7 @@ ghost use Rattle.kl_core.specs.Inner.Keeping.{IsEntry, HasEntry, HasOpening, ter
 ghost use Rattle.kl_core.specs.Inner.Bars.{IsBarred, Lacks};
 
 use crate::refusal::Refusal;
-use kl_agents::{Entry, Handed, Opening, Target, first_due};
+use kl_agents::{Entry, Handed, Opening, Target, first_due, kept};
 use kl_appraise::SharedTerms;
 use kl_history::Record;
 use kl_notice::{Notice, Outbox};
@@ -176,10 +176,7 @@ impl Book {
     fn entry(&self, agent: &AgentId) -> Option<Entry>
         ensures { HasEntry self.now.history (past self.now) agent.now result }
     {
-        match self.agents.get(agent) {
-            Some(entry) => Some(*entry),
-            None => None,
-        }
+        kept(&self.agents, agent)
     }
 
     /// Refuses an agent that is not installed, or not live.

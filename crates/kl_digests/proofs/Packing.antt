@@ -1,5 +1,5 @@
 -- Digests that lie in one buffer: what a digest more leaves as it was, and what halving finds.
-use Rattle.std.proofs.Common.{◌≡◌, ℕ, ◌≤◌, Bool, true, false, Result, Ok, Err, List, [], ◌∷◌, ◌++◌, length, drop, get_or, All, refl, sym, ap, subst, ◌∙◌, ◌||◌, arith, inl, inr, length-append}
+use Rattle.std.proofs.Common.{◌≡◌, ℕ, ◌≤◌, Bool, true, false, Result, Ok, Err, OnErr, List, [], ◌∷◌, ◌++◌, length, drop, get_or, All, refl, sym, ap, subst, ◌∙◌, ◌||◌, arith, inl, inr, length-append}
 use Rattle.std.proofs.Math.Seq.{drop-append_seam}
 use Rattle.std.proofs.Math.ListN.{drop_of_length-le}
 use Rattle.std.proofs.lemmas.Bool.{cases_lt}
@@ -17,6 +17,11 @@ use Rattle.std.specs.Result.{is_ok}
 use Rattle.std.specs.Str.{bytes_eq}
 use Rattle.kl_digests.proofs.DigestSets.{contains_list}
 use Rattle.kl_digests.specs.Inner.Packed.{measured_off, IsWhole, digest_at, digests_in, is_listed, AreSorted}
+
+-- what holds where there is an error
+pub where_err : {T E P : Type 0} (r : Result T E) → P → OnErr r P
+where_err (Ok _) p = tt
+where_err (Err _) p = p
 
 -- ---- a longer buffer
 

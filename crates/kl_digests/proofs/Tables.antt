@@ -45,6 +45,11 @@ table_map_insert old new path v is =
     ∙ ap (λ b. cond b (Some v) (finite_map.get (table_map old) q)) (sym (turned q path))
     ∙ sym (get-insert nat_list_cmp_total (table_map old) path v q))
 
+-- and with the same look-ups it is the same map
+pub table_map_kept : {A S : Type 0} (old new : HashMap (String A) DigestSet S) → ((q : List ℕ) → get_by_text new q ≡ get_by_text old q) → table_map new ≡ table_map old
+table_map_kept old new same =
+    same_map nat_list_cmp_total (slice_cmp-IsAntisymmetric nat_cmp-IsAntisymmetric) _ _ (λ q. get-table_map new q ∙ same q ∙ sym (get-table_map old q))
+
 -- no key is the first of distinct keys again
 none_later : {A X : Type 0} (key : String A) (es : List (String A × X))
     → AllByRecursion (λ other. string_eq key other ≡ false) (keys_of es) → lookup (λ other. bytes_eq (string_bytes key) (string_bytes other)) es ≡ None

@@ -1,11 +1,10 @@
 -- The digests that a policy names for each path.
-use Rattle.std.specs.Prelude.{◌≡◌, ◌≤◌, ℕ, length, Ok, Option, None, Some, List, [], ◌∷◌, map, filter, IsSomeAnd, IsTrue}
+use Rattle.std.specs.Prelude.{◌≡◌, ◌≤◌, ℕ, length, Ok, List}
 use Rattle.std.specs.Coded.{Coded, coded_ℕ, coded_list}
 use Rattle.std.specs.Cmp.Lexicographic.{slice_cmp}
 use Rattle.std.specs.FinMap as finite_map
 use Rattle.std.specs.FinSet as finite_set
 use Rattle.std.specs.Ordering.{nat_cmp}
-use Rattle.std.specs.Str.{bytes_eq}
 use Rattle.hex.specs.Hex.{decode_of}
 
 -- a set of digests
@@ -21,23 +20,6 @@ pub record SpellsDigest (digits digest : List ℕ) : Type 0 where
   pub decoded : decode_of digits ≡ Ok digest
   pub some : 2 ≤ length digits
   pub most : length digits ≤ 128
-
--- the map names this digest for this path
-abbrev pub HasDigest : DigestMap → List ℕ → List ℕ → Type 0
-HasDigest digests path digest = IsSomeAnd (finite_map.get digests path) (λ known. IsTrue (finite_set.contains known digest))
-
--- of pairs of a path and a digest: the digests of this path
-abbrev pub digests_at : List ℕ → List (List ℕ × List ℕ) → List (List ℕ)
-digests_at path pairs = map (λ pair. pair.1) (filter (λ pair. bytes_eq path pair.0) pairs)
-
--- the set of these digests, where there is one
-abbrev pub set_of : List (List ℕ) → Option DigestSet
-set_of [] = None
-set_of (digest ∷ digests) = Some (finite_set.from_list (digest ∷ digests))
-
--- the map has, at each path, the digests of that path's pairs, and no path without pairs
-abbrev pub Collects : List (List ℕ × List ℕ) → DigestMap → Type 0
-Collects pairs digests = (path : List ℕ) → finite_map.get digests path ≡ set_of (digests_at path pairs)
 
 -- a set and a map as stored values
 abbrev pub digest_set_code : Coded DigestSet

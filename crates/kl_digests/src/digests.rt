@@ -1,6 +1,6 @@
 //! The digests of each path, in a hash table.
 
-ghost use Rattle.std.specs.Prelude.{◌≡◌, ℕ, List, IfOk, OnOk, Some, if◌then◌else◌, unwrap_or, string_bytes};
+ghost use Rattle.std.specs.Prelude.{◌≡◌, ℕ, List, IfOk, OnOk, OnErr, Some, if◌then◌else◌, unwrap_or, string_bytes};
 ghost use Rattle.std.specs.HashMap.{get_by_text};
 ghost use Rattle.std.specs.FinMap as finite_map;
 ghost use Rattle.std.specs.FinSet as finite_set;
@@ -50,6 +50,7 @@ impl KnownDigests {
         }
     }
 
+    /// One digest.
     fn of(digest: FileDigest) -> KnownDigests
         ensures { result ≡ finite_set.insert finite_set.empty digest }
     {
@@ -64,7 +65,8 @@ impl KnownDigests {
     ///
     /// [`Memory`].
     pub fn push(&mut self, alloc: Global, digest: &FileDigest) -> Result<(), Memory>
-        ensures { OnOk result (self.new ≡ finite_set.insert self.old digest.now) }
+        ensures added { OnOk result (self.new ≡ finite_set.insert self.old digest.now) }
+        ensures same { OnErr result (self.new ≡ self.old) }
     {
         match &mut self.held {
             Held::Nothing => {
@@ -162,7 +164,8 @@ impl DigestMap {
     ///
     /// [`Memory`].
     pub fn put(&mut self, path: String, known: KnownDigests) -> Result<(), Memory>
-        ensures { OnOk result (self.new ≡ finite_map.insert self.old (string_bytes path) known) }
+        ensures added { OnOk result (self.new ≡ finite_map.insert self.old (string_bytes path) known) }
+        ensures same { OnErr result (self.new ≡ self.old) }
     {
         match self.map.insert(path, known) {
             Ok(_) => Ok(()),
@@ -176,7 +179,8 @@ impl DigestMap {
     ///
     /// [`Memory`].
     pub fn add(&mut self, alloc: Global, path: &str, digest: &FileDigest) -> Result<(), Memory>
-        ensures { OnOk result (self.new ≡ finite_map.insert self.old path.now (finite_set.insert (unwrap_or (finite_map.get self.old path.now) finite_set.empty) digest.now)) }
+        ensures added { OnOk result (self.new ≡ finite_map.insert self.old path.now (finite_set.insert (unwrap_or (finite_map.get self.old path.now) finite_set.empty) digest.now)) }
+        ensures same { OnErr result (self.new ≡ self.old) }
     {
         push_at(&mut self.map, alloc, String::from_str(alloc, path)?, digest)
     }
@@ -214,8 +218,9 @@ fn push_at(
     path: String,
     digest: &FileDigest,
 ) -> Result<(), Memory>
-    ensures { OnOk result ((q : List ℕ) → get_by_text table.new q
+    ensures added { OnOk result ((q : List ℕ) → get_by_text table.new q
         ≡ (if bytes_eq (string_bytes path) q then Some (finite_set.insert (unwrap_or (get_by_text table.old (string_bytes path)) finite_set.empty) digest.now) else get_by_text table.old q)) }
+    ensures same { OnErr result ((q : List ℕ) → get_by_text table.new q ≡ get_by_text table.old q) }
 {
     match table.entry(path)? {
         Entry::Occupied(mut found) => found.get_mut().push(alloc, digest)?,

@@ -1,6 +1,6 @@
 //! Many digests in little memory.
 
-ghost use Rattle.std.specs.Prelude.{◌≡◌, ◌≤◌, ◌∷◌, ◌++◌, List, ℕ, length, drop, OnOk, IsTrue};
+ghost use Rattle.std.specs.Prelude.{◌≡◌, ◌∷◌, ◌++◌, List, ℕ, length, OnOk, OnErr};
 ghost use Rattle.std.specs.FinSet as finite_set;
 ghost use Rattle.std.specs.Cmp.Lexicographic.{slice_cmp};
 ghost use Rattle.std.specs.List.Sorted.{IsPermutation};
@@ -51,7 +51,8 @@ impl PackedDigests {
 
     /// Adds a digest.
     pub fn push(&mut self, digest: &FileDigest) -> Result<(), Memory>
-        ensures { OnOk result (self.new ≡ finite_set.insert self.old digest.now) }
+        ensures added { OnOk result (self.new ≡ finite_set.insert self.old digest.now) }
+        ensures same { OnErr result (self.new ≡ self.old) }
     {
         let start = self.bytes.len();
         self.sorted = false;

@@ -11,8 +11,8 @@ use Rattle.std.specs.List.{AllZip}
 use Rattle.std.specs.Ordering.{nat_cmp, eq_by_cmp}
 use Rattle.std.specs.Str.{bytes_eq}
 use Rattle.kl_entry.specs.Lines.{lines_of, onto_first}
-use Rattle.kl_digests.specs.Digests.{DigestMap, digests_at, set_of, Collects}
-use Rattle.kl_policy.specs.Flat.{FlatLine, GivesPair, is_written, written, AreListed, LinesCollect, IsGoodLine, BreaksAt}
+use Rattle.kl_digests.specs.Digests.{DigestMap}
+use Rattle.kl_policy.specs.Flat.{FlatLine, GivesPair, digests_at, set_of, Collects, is_written, written, AreListed, LinesCollect, IsGoodLine, BreaksAt}
 
 -- an empty map collects nothing
 pub collect_none : LinesCollect [] finite_map.empty

@@ -9,9 +9,9 @@ use Rattle.hex.specs.Hex.{decode_of}
 use Rattle.hex.proofs.HexLemmas.{decode_of-same}
 use Rattle.kl_entry.specs.Lines.{lines_of}
 use Rattle.kl_entry.proofs.FirstFailing.{one_failing}
-use Rattle.kl_digests.specs.Digests.{DigestMap, Collects}
+use Rattle.kl_digests.specs.Digests.{DigestMap}
 use Rattle.kl_policy.specs.PolicyFields.{PolicyFields}
-use Rattle.kl_policy.specs.Flat.{FlatLine, AreListed, ListsDigests, IsGoodLine, BreaksAt, IsFlatFault, IsReadAs, IsRefusedAt}
+use Rattle.kl_policy.specs.Flat.{FlatLine, Collects, AreListed, ListsDigests, IsGoodLine, BreaksAt, IsFlatFault, IsReadAs, IsRefusedAt}
 use Rattle.kl_policy.specs.declared.fault.Limit.TheVariants.{Paths, Patterns, PatternBytes}
 use Rattle.kl_policy.specs.declared.fault.PolicyFault.{PolicyFault}
 use Rattle.kl_policy.specs.declared.fault.PolicyFault.TheVariants.{Json, Line, BadDigest, Unsupported, Limit as Over, Exclude, Memory}

@@ -1,11 +1,13 @@
 -- The flat allowlist: a line is a digest in hexadecimal digits, two spaces and a path, as `sha256sum` writes them in text
 -- mode. Its lines in binary mode, with a space and a `*` before the path, and those of an escaped path, which begin with a
 -- backslash, are no such lines.
-use Rattle.std.specs.Prelude.{◌≡◌, ℕ, ◌<◌, ◌≤◌, ◌++◌, ◌⊎◌, List, [], ◌∷◌, length, filter, Bool, true, false, codes, Result, Ok, Err, ⊤}
+use Rattle.std.specs.Prelude.{◌≡◌, ℕ, ◌<◌, ◌≤◌, ◌++◌, ◌⊎◌, List, [], ◌∷◌, length, map, filter, Bool, true, false, Option, None, Some, codes, Result, Ok, Err, ⊤}
 use Rattle.std.specs.FinMap as finite_map
+use Rattle.std.specs.FinSet as finite_set
 use Rattle.std.specs.List.{AllZip}
+use Rattle.std.specs.Str.{bytes_eq}
 use Rattle.kl_entry.specs.Lines.{lines_of, IsFirstFailing}
-use Rattle.kl_digests.specs.Digests.{DigestMap, Collects, SpellsDigest}
+use Rattle.kl_digests.specs.Digests.{DigestSet, DigestMap, SpellsDigest}
 use Rattle.kl_policy.specs.PolicyFields.{PolicyFields}
 use Rattle.kl_policy.specs.declared.fault.Limit.TheVariants.{Paths}
 use Rattle.kl_policy.specs.declared.fault.PolicyFault.{PolicyFault}
@@ -35,6 +37,19 @@ written lines = filter is_written lines
 -- the lines give these pairs of a path and a digest, in order; an empty line gives none
 abbrev pub AreListed : List (List ℕ) → List (List ℕ × List ℕ) → Type 0
 AreListed lines pairs = AllZip GivesPair (written lines) pairs
+
+-- of pairs of a path and a digest: the digests of this path
+abbrev pub digests_at : List ℕ → List (List ℕ × List ℕ) → List (List ℕ)
+digests_at path pairs = map (λ pair. pair.1) (filter (λ pair. bytes_eq path pair.0) pairs)
+
+-- the set of these digests, where there is one
+abbrev pub set_of : List (List ℕ) → Option DigestSet
+set_of [] = None
+set_of (digest ∷ digests) = Some (finite_set.from_list (digest ∷ digests))
+
+-- the map has, at each path, the digests of that path's pairs, and no path without pairs
+abbrev pub Collects : List (List ℕ × List ℕ) → DigestMap → Type 0
+Collects pairs digests = (path : List ℕ) → finite_map.get digests path ≡ set_of (digests_at path pairs)
 
 -- the digests that these lines list, by their paths: those of a repeated path are added up
 abbrev pub LinesCollect : List (List ℕ) → DigestMap → Type 0

@@ -4,7 +4,7 @@ use Rattle.std.specs.FinMap as finite_map
 use Rattle.std.specs.FinSet as finite_set
 use Rattle.kl_exclude.specs.Excludes.{any_excludes}
 use Rattle.kl_entry.specs.Entries.{EntryFields, is_violation, is_consistent}
-use Rattle.kl_digests.specs.Digests.{DigestSet, HasDigest}
+use Rattle.kl_digests.specs.Digests.{DigestSet, DigestMap}
 use Rattle.kl_policy.specs.PolicyFields.{PolicyFields}
 use Rattle.kl_policy.specs.declared.why.Why.{Why}
 use Rattle.kl_policy.specs.declared.why.Why.TheVariants.{Violation, Inconsistent, Unknown, Digest}
@@ -12,6 +12,10 @@ use Rattle.kl_policy.specs.declared.why.Why.TheVariants.{Violation, Inconsistent
 -- the policy does not ask for a digest of this path: the leftmost match of one of its exclude patterns begins at byte 0
 abbrev pub Excludes : PolicyFields → List ℕ → Type 0
 Excludes policy path = IsTrue (any_excludes policy.patterns path)
+
+-- the map names this digest for this path
+abbrev pub HasDigest : DigestMap → List ℕ → List ℕ → Type 0
+HasDigest digests path digest = IsSomeAnd (finite_map.get digests path) (λ known. IsTrue (finite_set.contains known digest))
 
 -- a violation is allowed where the policy passes violations; another entry is allowed where it is
 -- consistent, and its path is excluded or the policy names its digest for its path

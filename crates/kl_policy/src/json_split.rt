@@ -1,6 +1,6 @@
 //! A JSON policy read over its text.
 
-ghost use Rattle.std.specs.Prelude.{◌≡◌, ◌≢◌, List, true, Some, IfOk, IfSome, map, string_bytes, codes};
+ghost use Rattle.std.specs.Prelude.{◌≡◌, ◌≢◌, true, Some, IfOk, IfSome, map, string_bytes, codes};
 ghost use Rattle.json.specs.Value.{value_view, members_view as tree_members};
 ghost use Rattle.serde_json.specs.Data.{Data, Members, object, no_members, put};
 ghost use Rattle.serde_json.specs.Read.{of_json, of_members};

@@ -1,6 +1,6 @@
 //! Whether a policy allows one entry after the other.
 
-ghost use Rattle.std.specs.Prelude.{◌≡◌, ◌↔◌, [], IfOk, IsNone, IsOk};
+ghost use Rattle.std.specs.Prelude.{◌≡◌, [], IfOk, IsOk};
 ghost use Rattle.kl_entry.specs.Entries.{is_consistent};
 ghost use Rattle.kl_exclude.specs.Excludes.{any_excludes};
 ghost use Rattle.kl_policy.specs.Policy.{why_of};

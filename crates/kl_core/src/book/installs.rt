@@ -8,11 +8,11 @@ ghost use Rattle.kl_history.specs.Records.{own};
 ghost use Rattle.kl_history.specs.LookBacks.{installed};
 ghost use Rattle.kl_history.specs.Legal.{MayInstall, HasRoom, HasBytes};
 ghost use Rattle.kl_core.specs.Installs.{RefusesAdd, Adds, add_makes, RefusesReactivate, Reactivates, reactivate_makes, with_policy, RefusesReplace, Replaces, replace_makes};
-ghost use Rattle.kl_core.specs.Inner.Keeping.{IsEntry, terms_at};
+ghost use Rattle.kl_core.specs.Inner.Keeping.{terms_at};
 
 use super::{Book, MOST_AGENTS, ends};
 use crate::refusal::Refusal;
-use kl_agents::{Entry, kept_at, put_fresh, renew, take_out};
+use kl_agents::{kept_at, put_fresh, renew, take_out};
 use kl_appraise::{SharedTerms, Terms};
 use kl_history::{InstallWhy, Record};
 use kl_policy::Policy;

@@ -1,11 +1,10 @@
-//! Polls begin and are closed.
+//! Polls begin.
 
 ghost use Rattle.std.specs.Prelude.{◌≡◌, ℕ, true, false, IfOk, IfErr, IfSome, IfNone, Some, None};
-ghost use Rattle.kl_history.specs.Records.{own, is_open};
-ghost use Rattle.kl_history.specs.Legal.{IsBusy, HasRoom, HasBytes};
+ghost use Rattle.kl_history.specs.Records.{is_open};
+ghost use Rattle.kl_history.specs.Legal.{HasRoom, HasBytes};
 ghost use Rattle.kl_core.specs.Books.{past, with_more};
 ghost use Rattle.kl_core.specs.Begins.{MayPoll, RefusesBegin, BeginAnswers, begin_makes};
-ghost use Rattle.kl_core.specs.Inner.Keeping.{IsEntry};
 ghost use Rattle.kl_agents.specs.Steps.{latest_poll};
 
 use super::{Book, POLL_BYTES, ends};

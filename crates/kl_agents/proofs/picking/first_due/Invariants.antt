@@ -1,5 +1,6 @@
 use Rattle.std.proofs.Common.{◌≡◌}
-use Rattle.kl_agents.specs.Picking.{first_of, first_due}
+use Rattle.kl_agents.specs.Picking.{first_due}
+use Rattle.kl_agents.proofs.FirstDue.{first_of}
 use Rattle.kl_agents.proofs.picking.first_due.Given as goal
 
 -- the first so far, and of those that are left, is that of all

@@ -37,7 +37,7 @@ loop-line-preserved c = record {
       subst (λ lines. LinesCollect lines c.if-not-is_empty.digests) (sym (map-append (λ line. line.now) c.loop-line.yielded (c.in-Some.line ∷ [])))
       (elim c.if-not-is_empty.branch [
         | then-not-is_empty+in-Some-read_line+in_ok-add w ↦
-            subst (λ digests. LinesCollect (map (λ line. line.now) c.loop-line.yielded ++ c.in-Some.line.now ∷ []) digests) (sym (w.digests-is ∙ w.in_ok-add.ensures))
+            subst (λ digests. LinesCollect (map (λ line. line.now) c.loop-line.yielded ++ c.in-Some.line.now ∷ []) digests) (sym (w.digests-is ∙ w.in_ok-add.ensures.added))
             (collect_line (map (λ line. line.now) c.loop-line.yielded) c.in-Some.line.now w.in-Some-read_line.listed.digest w.in-Some-read_line.listed.path.now c.loop-line.digests
             (something c.in-Some.line.now c.is_empty.result c.is_empty.ensures w.if-not-is_empty.true)
             w.in-Some-read_line.ensures.read c.loop-line.invariant.collected)

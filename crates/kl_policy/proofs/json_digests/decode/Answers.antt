@@ -40,7 +40,7 @@ loop-path-preserved c =
       made = (
         made.0 ++ pair ∷ [],
         all_zipped_more SpellsAll c.loop-path.yielded made.0 entry pair made.1 (refl, (texts.0, texts.1, spelled.1)),
-        c.in_ok-put.ensures ∙ ap (λ (m : DigestMap). finite_map.insert m (string_bytes c.in-Some.path) c.in_ok-known.known) made.2
+        c.in_ok-put.ensures.added ∙ ap (λ (m : DigestMap). finite_map.insert m (string_bytes c.in-Some.path) c.in_ok-known.known) made.2
             ∙ ap (λ (known : DigestSet). finite_map.insert (map_of made.0) (string_bytes c.in-Some.path) known) spelled.2 ∙ map_push made.0 pair,
       );
     }

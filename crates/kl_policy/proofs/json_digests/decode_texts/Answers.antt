@@ -39,7 +39,7 @@ loop-i-preserved c =
       c.loop-i.invariant.0 ++ digest ∷ [],
       subst (λ (vs : List Value). AllZip SpellsValue vs (c.loop-i.invariant.0 ++ digest ∷ [])) (sym front)
           (all_zipped_more SpellsValue (take i items) c.loop-i.invariant.0 v digest c.loop-i.invariant.1 c.in-Some-digest_of.ensures.read),
-      c.in_ok-push.ensures ∙ ap (λ (s : DigestSet). insert s digest) c.loop-i.invariant.2 ∙ set_push c.loop-i.invariant.0 digest,
+      c.in_ok-push.ensures.added ∙ ap (λ (s : DigestSet). insert s digest) c.loop-i.invariant.2 ∙ set_push c.loop-i.invariant.0 digest,
     )
 
 pub returns-clause-decoded : goal.returns-clause-decoded

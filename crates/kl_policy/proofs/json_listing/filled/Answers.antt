@@ -25,7 +25,7 @@ loop-path-preserved c =
       put path.0.now one.0 ms,
       ap (λ x. of_members (tree_members x) no_members) front ∙ member_more (take i paths) path no_members ms one.0 c.loop-path.invariant.1 one.1,
       fills_next i ms c.loop-path.digests c.put.new.self path.0.now (string_bytes c.in_ok-name.name) one.0 one.2.0 c.in-Some.known c.loop-path.invariant.2 one.2.1 one.2.2
-          c.in_ok-name.ensures.ok c.in_ok-put.ensures,
+          c.in_ok-name.ensures.ok c.in_ok-put.ensures.added,
     )
 
 pub returns : goal.returns

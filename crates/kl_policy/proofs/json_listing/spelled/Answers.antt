@@ -19,7 +19,7 @@ loop-item-preserved c =
     let digest : List ℕ = c.in-Some.digest in (
       digests ++ digest ∷ [],
       subst (λ ts. AllZip SpellsTree ts (digests ++ digest ∷ [])) (sym front) (all_zipped_more SpellsTree (take i trees) digests tree digest c.loop-item.invariant.1 c.in-Some.ensures),
-      c.in_ok-push.ensures ∙ ap (λ (s : DigestSet). insert s digest) c.loop-item.invariant.2 ∙ set_push digests digest,
+      c.in_ok-push.ensures.added ∙ ap (λ (s : DigestSet). insert s digest) c.loop-item.invariant.2 ∙ set_push digests digest,
     )
 
 pub returns : goal.returns

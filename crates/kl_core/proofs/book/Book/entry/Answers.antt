@@ -1,10 +1,5 @@
-use Rattle.std.proofs.Common.{rules}
-use Rattle.kl_history.specs.Records.{past_of}
-use Rattle.kl_core.proofs.Standing.{entry_at}
+-- What is kept of it is what the invariant says.
 use Rattle.kl_core.proofs.book.Book.entry.Goals as goal
 
-pub returns-in-Some : goal.returns-in-Some
-returns-in-Some c =
-    let b = c.self.inside in
-    rw (← c.self.view_is)
-    (entry_at b.records.items (past_of b.records.items) c.args.agent.now _ c.in-Some.entry.now (c.self.invariant.0.agents_are c.args.agent.now) (search rules))
+pub returns : goal.returns
+returns c = rw (← c.self.view_is, c.kept.ensures) (c.self.invariant.0.agents_are c.args.agent.now)

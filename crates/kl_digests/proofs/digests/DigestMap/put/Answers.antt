@@ -6,7 +6,7 @@ use Rattle.kl_digests.specs.Digests.{DigestMap}
 use Rattle.kl_digests.proofs.Tables.{table_map_insert}
 use Rattle.kl_digests.proofs.digests.DigestMap.put.Goals as goal
 
-pub returns-in-Ok : goal.returns-in-Ok
-returns-in-Ok c =
+pub returns-in-Ok-clause-added : goal.returns-in-Ok-clause-added
+returns-in-Ok-clause-added c =
     table_map_insert c.self.inside.map c.insert.new.self (string_bytes c.args.path) c.args.known (λ q. grind (arith, text_keys))
     ∙ ap (λ (m : DigestMap). finite_map.insert m (string_bytes c.args.path) c.args.known) c.self.view_is

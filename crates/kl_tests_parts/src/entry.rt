@@ -85,88 +85,95 @@ fn consistent_lines_are_read_and_written_again(rt: HostRuntime) -> Result<(), Fa
     Ok(())
 }
 
+/// Lines, and their first faults.
+const FAULTY: [(&str, LineFault); 21] = [
+    ("", LineFault::Pcr),
+    ("10", LineFault::Pcr),
+    ("11 ff", LineFault::Pcr),
+    ("10  ", LineFault::HashText),
+    (
+        "10 00000000000000000000000000000000000000ff",
+        LineFault::HashText,
+    ),
+    (
+        "10 000000000000000000000000000000000000000ff ",
+        LineFault::HashText,
+    ),
+    (
+        "10 00000000000000000000000000000000000000fF ima-sig ",
+        LineFault::HashText,
+    ),
+    (
+        "10 00000000000000000000000000000000000000ff ",
+        LineFault::Template,
+    ),
+    (
+        "10 00000000000000000000000000000000000000ff ima-ng",
+        LineFault::Template,
+    ),
+    (
+        "10 00000000000000000000000000000000000000ff ima-sig :00 ",
+        LineFault::Template,
+    ),
+    (
+        "10 00000000000000000000000000000000000000ff ima-ng ",
+        LineFault::Digest,
+    ),
+    (
+        "10 00000000000000000000000000000000000000ff ima-ng sha1 /p",
+        LineFault::Digest,
+    ),
+    (
+        "10 00000000000000000000000000000000000000ff ima-ng :00 ",
+        LineFault::Digest,
+    ),
+    (
+        "10 00000000000000000000000000000000000000ff ima-ng Sha1:00 /p",
+        LineFault::Digest,
+    ),
+    (
+        "10 00000000000000000000000000000000000000ff ima-ng sha1:000 /p",
+        LineFault::Digest,
+    ),
+    (
+        "10 00000000000000000000000000000000000000ff ima-ng sha1:0g /p",
+        LineFault::Digest,
+    ),
+    (
+        "10 00000000000000000000000000000000000000ff ima-ng sha1:00",
+        LineFault::Digest,
+    ),
+    (
+        "10 00000000000000000000000000000000000000ff ima-ng aaaaaaaaaaaaaaaaaaaaaaaaaaaaaaaaa:00 /p",
+        LineFault::Digest,
+    ),
+    (
+        "10 00000000000000000000000000000000000000ff ima-ng sha1:ababababababababababababababababababababababababababababababababababababababababababababababababababababababababababababababababab /p",
+        LineFault::Digest,
+    ),
+    (
+        "10 00000000000000000000000000000000000000ff ima-ng sha1:00 ",
+        LineFault::Path,
+    ),
+    (
+        "10 00000000000000000000000000000000000000ff ima-ng sha1: \n",
+        LineFault::Path,
+    ),
+];
+
+fn first_without_its_fault() -> Option<usize> {
+    FAULTY
+        .iter()
+        .position(|(line, want)| read_entry(line).err() != Some(*want))
+}
+
 #[test]
 fn the_first_fault_is_told(rt: HostRuntime) -> Result<(), Fail> {
+    assert_eq!(rt; first_without_its_fault(), None);
     let too_long = filled(rt.alloc(), FRONT, 8193)?;
     let and_no_pcr = filled(rt.alloc(), "", 8193)?;
-    for (line, want) in [
-        (too_long.as_str(), LineFault::TooLong),
-        (and_no_pcr.as_str(), LineFault::TooLong),
-        ("", LineFault::Pcr),
-        ("10", LineFault::Pcr),
-        ("11 ff", LineFault::Pcr),
-        ("10  ", LineFault::HashText),
-        (
-            "10 00000000000000000000000000000000000000ff",
-            LineFault::HashText,
-        ),
-        (
-            "10 000000000000000000000000000000000000000ff ",
-            LineFault::HashText,
-        ),
-        (
-            "10 00000000000000000000000000000000000000fF ima-sig ",
-            LineFault::HashText,
-        ),
-        (
-            "10 00000000000000000000000000000000000000ff ",
-            LineFault::Template,
-        ),
-        (
-            "10 00000000000000000000000000000000000000ff ima-ng",
-            LineFault::Template,
-        ),
-        (
-            "10 00000000000000000000000000000000000000ff ima-sig :00 ",
-            LineFault::Template,
-        ),
-        (
-            "10 00000000000000000000000000000000000000ff ima-ng ",
-            LineFault::Digest,
-        ),
-        (
-            "10 00000000000000000000000000000000000000ff ima-ng sha1 /p",
-            LineFault::Digest,
-        ),
-        (
-            "10 00000000000000000000000000000000000000ff ima-ng :00 ",
-            LineFault::Digest,
-        ),
-        (
-            "10 00000000000000000000000000000000000000ff ima-ng Sha1:00 /p",
-            LineFault::Digest,
-        ),
-        (
-            "10 00000000000000000000000000000000000000ff ima-ng sha1:000 /p",
-            LineFault::Digest,
-        ),
-        (
-            "10 00000000000000000000000000000000000000ff ima-ng sha1:0g /p",
-            LineFault::Digest,
-        ),
-        (
-            "10 00000000000000000000000000000000000000ff ima-ng sha1:00",
-            LineFault::Digest,
-        ),
-        (
-            "10 00000000000000000000000000000000000000ff ima-ng aaaaaaaaaaaaaaaaaaaaaaaaaaaaaaaaa:00 /p",
-            LineFault::Digest,
-        ),
-        (
-            "10 00000000000000000000000000000000000000ff ima-ng sha1:ababababababababababababababababababababababababababababababababababababababababababababababababababababababababababababababababab /p",
-            LineFault::Digest,
-        ),
-        (
-            "10 00000000000000000000000000000000000000ff ima-ng sha1:00 ",
-            LineFault::Path,
-        ),
-        (
-            "10 00000000000000000000000000000000000000ff ima-ng sha1: \n",
-            LineFault::Path,
-        ),
-    ] {
-        assert_eq!(rt; read_entry(line).err(), Some(want), "{line}");
-    }
+    let faults = (read_entry(&too_long).err(), read_entry(&and_no_pcr).err());
+    assert!(rt; faults == (Some(LineFault::TooLong), Some(LineFault::TooLong)));
     Ok(())
 }
 

@@ -1,4 +1,5 @@
 use kl_io::*;
+use std::alloc::Global;
 use std::cell::Cell;
 use std::io;
 use std::io::{ErrorKind, Read, Write};
@@ -29,6 +30,21 @@ fn passes<S: Source, K: Sink>(
     (outcomes, source.faults(), sink.faults())
 }
 
+/// Whether a source and a sink in memory that are made so pass this in five turns.
+fn is_passed(alloc: Global, case: &Case<'_>) -> bool {
+    let (Ok(content), Ok(mut sink)) = (
+        Vec::from_slice(alloc, case.content),
+        MemSink::new(alloc, case.room, case.puts),
+    ) else {
+        return false;
+    };
+    let Ok(mut source) = MemSource::new(alloc, content, case.reads) else {
+        return false;
+    };
+    let (outcomes, reads, puts) = passes(&mut source, &mut sink);
+    outcomes == case.outcomes && (reads, puts) == case.faults && sink.held() == case.held
+}
+
 /// What a source and a sink in memory are made of, and what comes of five turns.
 #[derive(Drop)]
 struct Case<'a> {
@@ -42,10 +58,7 @@ struct Case<'a> {
 }
 
 #[test]
-fn memory_passes_bytes_in_order_and_fails_where_it_is_listed_or_full(
-    rt: HostRuntime,
-) -> Result<(), Fail> {
-    let alloc = rt.alloc();
+fn memory_passes_bytes_in_order_and_fails_where_it_is_listed_or_full(rt: HostRuntime) {
     let lost = Err(Failed);
     let late = [9u64; 600];
     let cases = [
@@ -89,15 +102,8 @@ fn memory_passes_bytes_in_order_and_fails_where_it_is_listed_or_full(
         },
     ];
     for case in &cases {
-        let content = Vec::from_slice(alloc, case.content)?;
-        let mut source = MemSource::new(alloc, content, case.reads)?;
-        let mut sink = MemSink::new(alloc, case.room, case.puts)?;
-        let (outcomes, reads, puts) = passes(&mut source, &mut sink);
-        let counted = (reads, puts) == case.faults;
-        let right = outcomes == case.outcomes && counted && sink.held() == case.held;
-        assert!(rt; right, "in a room of {}", case.room);
+        assert!(rt; is_passed(rt.alloc(), case), "in a room of {}", case.room);
     }
-    Ok(())
 }
 
 #[test]
@@ -187,8 +193,28 @@ fn draws<N: Words>(words: &mut N) -> ([Result<(), WordsError>; 3], [u8; 4], [u8;
     (outcomes, four, two, words.faults())
 }
 
+/// Whether words of these bytes, which fail at these draws, are drawn so.
+fn are_drawn(
+    alloc: Global,
+    content: &[u8],
+    fails: &[u64],
+    outcomes: [Result<(), WordsError>; 3],
+    bytes: &str,
+    faults: u64,
+) -> bool {
+    let Ok(content) = Vec::from_slice(alloc, content) else {
+        return false;
+    };
+    let Ok(mut words) = MemWords::new(alloc, content, fails) else {
+        return false;
+    };
+    let (came, four, two, counted) = draws(&mut words);
+    let drawn = bytes.as_bytes().starts_with(&four) && bytes.as_bytes().ends_with(&two);
+    drawn && came == outcomes && counted == faults
+}
+
 #[test]
-fn words_in_memory_are_drawn_in_order_and_end(rt: HostRuntime) -> Result<(), Fail> {
+fn words_in_memory_are_drawn_in_order_and_end(rt: HostRuntime) {
     let (failed, ended) = (Err(WordsError::Failed), Err(WordsError::Ended));
     let late = [9u64; 600];
     let cases: [(&[u8], &[u64], [Result<(), WordsError>; 3], &str, u64); 4] = [
@@ -199,13 +225,9 @@ fn words_in_memory_are_drawn_in_order_and_end(rt: HostRuntime) -> Result<(), Fai
         (b"", &[], [ended, Ok(()), ended], "------", 0),
     ];
     for (content, fails, outcomes, bytes, faults) in cases {
-        let content = Vec::from_slice(rt.alloc(), content)?;
-        let mut words = MemWords::new(rt.alloc(), content, fails)?;
-        let (came, four, two, counted) = draws(&mut words);
-        let drawn = bytes.as_bytes().starts_with(&four) && bytes.as_bytes().ends_with(&two);
-        assert!(rt; drawn && came == outcomes && counted == faults, "{bytes}");
+        let are = are_drawn(rt.alloc(), content, fails, outcomes, bytes, faults);
+        assert!(rt; are, "{bytes}");
     }
-    Ok(())
 }
 
 /// A runtime without random bytes, which counts how often it is asked for them, and without a clock.

@@ -1,6 +1,7 @@
 use crate::common::agent_of;
 use kl_keys::MacKeys;
 use kl_registrar::*;
+use kl_states::AgentId;
 use std::alloc::Global;
 use std::test::*;
 
@@ -17,18 +18,57 @@ const BLOBS: [&str; 2] = [
     "932f385cad13599d9cbc1b7cbd11fc1e2db1cb061039c15a38a90484db32a016ae158850c97e8605c68ae2186d40c0605db16fc5d2c52a74af61573d3530fe09",
 ];
 
-/// The blob of 32 such bytes for the keys `e1` and `k1`, in digits.
+/// Registers an agent under 32 such bytes with the keys `e1` and `k1`, and gives the blob in digits.
 fn registered(
     alloc: Global,
     registrar: &mut Registrar,
-    name: &str,
+    id: &AgentId,
     byte: u8,
     keys: &mut MacKeys,
-) -> Result<Result<String, RegFault>, Fail> {
-    let id = agent_of(name)?;
-    match registrar.register(alloc, id, b"e1", b"k1", "h:9002", [byte; 32], keys) {
-        Ok(blob) => Ok(Ok(hex::encode(alloc, &blob)?)),
-        Err(fault) => Ok(Err(fault)),
+) -> Result<String, RegFault> {
+    let blob = registrar.register(alloc, *id, b"e1", b"k1", "h:9002", [byte; 32], keys)?;
+    match hex::encode(alloc, &blob) {
+        Ok(digits) => Ok(digits),
+        Err(_) => Err(RegFault::Memory),
+    }
+}
+
+/// Whether an agent registers and gets this blob.
+fn gets(
+    alloc: Global,
+    registrar: &mut Registrar,
+    id: &AgentId,
+    byte: u8,
+    keys: &mut MacKeys,
+    blob: &str,
+) -> bool {
+    match registered(alloc, registrar, id, byte, keys) {
+        Ok(digits) => digits.as_str() == blob,
+        Err(_) => false,
+    }
+}
+
+/// Whether an agent that activates itself with this tag is answered so, and is refused so then.
+fn is_answered(
+    registrar: &mut Registrar,
+    id: &AgentId,
+    tag: &str,
+    answer: Result<(), RegFault>,
+    fault: Option<RegFault>,
+) -> bool {
+    registrar.activate(id, tag) == answer && registrar.get(id).err() == fault
+}
+
+/// Whether there is a record with the keys `e1` and `k1`, and 32 such bytes.
+fn is_kept(registrar: &Registrar, id: &AgentId, byte: u8) -> bool {
+    match registrar.get(id) {
+        Ok(record) => {
+            record.ek.as_slice() == b"e1".as_slice()
+                && record.ak.as_slice() == b"k1".as_slice()
+                && record.contact.as_str() == "h:9002"
+                && record.secret == [byte; 32]
+        }
+        Err(_) => false,
     }
 }
 
@@ -37,28 +77,24 @@ fn an_agent_is_active_by_the_tag_under_its_latest_secret(rt: HostRuntime) -> Res
     let mut keys = MacKeys::new(rt.alloc(), &[])?;
     let mut registrar = Registrar::new(rt.alloc())?;
     let a1 = agent_of("a1")?;
-    for (byte, blob) in [(1, BLOBS[0]), (2, BLOBS[1])] {
-        let given = registered(rt.alloc(), &mut registrar, "a1", byte, &mut keys)?;
-        assert!(rt; given.is_ok_and(|text| text.as_str() == blob));
-    }
     let upper = SECOND.to_ascii_uppercase(rt.alloc())?;
-    let cases = [
-        (FIRST, Err(RegFault::WrongTag), Some(RegFault::NotActive)),
-        ("", Err(RegFault::WrongTag), Some(RegFault::NotActive)),
+    let first = gets(rt.alloc(), &mut registrar, &a1, 1, &mut keys, BLOBS[0]);
+    let second = gets(rt.alloc(), &mut registrar, &a1, 2, &mut keys, BLOBS[1]);
+    assert!(rt; first && second);
+    let (wrong, none) = (Err(RegFault::WrongTag), Some(RegFault::NotActive));
+    for (tag, answer, fault) in [
+        (FIRST, wrong, none),
+        ("", wrong, none),
         (upper.as_str(), Ok(()), None),
-        (FIRST, Err(RegFault::WrongTag), None),
+        (FIRST, wrong, None),
         (SECOND, Ok(()), None),
-    ];
-    for (tag, answer, fault) in cases {
-        let given = registrar.activate(&a1, tag);
+    ] {
         assert!(rt;
-            given == answer && registrar.get(&a1).err() == fault,
+            is_answered(&mut registrar, &a1, tag, answer, fault),
             "{tag}"
         );
     }
-    let record = registrar.get(&a1)?;
-    let kept = record.ek.as_slice() == b"e1".as_slice() && record.ak.as_slice() == b"k1".as_slice();
-    assert!(rt; kept && record.contact.as_str() == "h:9002" && record.secret == [2; 32]);
+    assert!(rt; is_kept(&registrar, &a1, 2));
     Ok(())
 }
 
@@ -67,42 +103,45 @@ fn a_refused_register_leaves_the_record(rt: HostRuntime) -> Result<(), Fail> {
     let mut keys = MacKeys::new(rt.alloc(), &[2])?;
     let mut registrar = Registrar::new(rt.alloc())?;
     let a1 = agent_of("a1")?;
-    drop(registered(rt.alloc(), &mut registrar, "a1", 1, &mut keys)?);
+    let first = gets(rt.alloc(), &mut registrar, &a1, 1, &mut keys, BLOBS[0]);
     let answer = registrar.activate(&a1, FIRST);
-    let refused = registered(rt.alloc(), &mut registrar, "a1", 2, &mut keys)?;
-    assert!(rt; answer.is_ok() && refused == Err(RegFault::KeysFault));
-    assert!(rt;
-        registrar
-            .get(&a1)
-            .is_ok_and(|record| record.secret == [1; 32])
-    );
+    let refused = registered(rt.alloc(), &mut registrar, &a1, 2, &mut keys);
+    assert!(rt; first && answer.is_ok() && refused == Err(RegFault::KeysFault));
+    assert!(rt; is_kept(&registrar, &a1, 1));
     Ok(())
+}
+
+/// Whether an agent registers under 32 bytes 2, and activates itself.
+fn is_entered(alloc: Global, registrar: &mut Registrar, id: &AgentId, keys: &mut MacKeys) -> bool {
+    let is_registered = registered(alloc, registrar, id, 2, keys).is_ok();
+    match hex::encode(alloc, &kl_keys::tag(&[2; 32], id)) {
+        Ok(tag) => is_registered && registrar.activate(id, tag.as_str()).is_ok(),
+        Err(_) => false,
+    }
+}
+
+/// Whether these are the agents of these names.
+fn are_named(ids: &[AgentId], names: &[&str]) -> bool {
+    ids.len() == names.len() && ids.iter().zip(names).all(|(id, name)| id.as_str() == *name)
 }
 
 #[test]
 fn active_agents_are_listed_in_the_order_of_their_names(rt: HostRuntime) -> Result<(), Fail> {
     let mut keys = MacKeys::new(rt.alloc(), &[])?;
     let mut registrar = Registrar::new(rt.alloc())?;
-    for name in ["b", "a1", "a", "Z", "_"] {
-        drop(registered(rt.alloc(), &mut registrar, name, 2, &mut keys)?);
+    for name in ["b", "a1", "a", "Z"] {
         let id = agent_of(name)?;
-        let tag = kl_keys::tag(&[2; 32], &id);
-        let text = hex::encode(rt.alloc(), &tag)?;
-        let answer = if name == "_" {
-            Ok(())
-        } else {
-            registrar.activate(&id, &text)
-        };
-        assert!(rt; answer.is_ok(), "{name}");
+        assert!(rt;
+            is_entered(rt.alloc(), &mut registrar, &id, &mut keys),
+            "{name}"
+        );
     }
-    registrar.remove(&agent_of("a")?)?;
-    assert!(rt; registrar.remove(&agent_of("a")?) == Err(RegFault::NoAgent));
+    let passive = registered(rt.alloc(), &mut registrar, &agent_of("_")?, 2, &mut keys);
+    let gone = agent_of("a")?;
+    let twice = (registrar.remove(&gone), registrar.remove(&gone));
+    assert!(rt; passive.is_ok() && twice == (Ok(()), Err(RegFault::NoAgent)));
     let ids = registrar.list(rt.alloc())?;
-    let names = ["Z", "a1", "b"];
-    assert!(rt; ids.len() == names.len());
-    for (id, name) in ids.iter().zip(names) {
-        assert!(rt; id.as_str() == name, "{name}");
-    }
+    assert!(rt; are_named(&ids, &["Z", "a1", "b"]));
     Ok(())
 }
 
@@ -112,15 +151,15 @@ fn a_registrar_has_at_most_1024_other_records(rt: HostRuntime) -> Result<(), Fai
     let mut registrar = Registrar::new(rt.alloc())?;
     for number in 0..1_024 {
         let name = format!(in rt.alloc(); "g{number}")?;
-        let given = registered(rt.alloc(), &mut registrar, &name, 1, &mut keys)?;
+        let given = registered(rt.alloc(), &mut registrar, &agent_of(&name)?, 1, &mut keys);
         assert!(rt; given.is_ok(), "{name}");
     }
-    let other = registered(rt.alloc(), &mut registrar, "z", 1, &mut keys)?;
-    let again = registered(rt.alloc(), &mut registrar, "g7", 2, &mut keys)?;
-    assert!(rt; other == Err(RegFault::Full) && again.is_ok());
-    registrar.remove(&agent_of("g7")?)?;
-    let now = registered(rt.alloc(), &mut registrar, "z", 1, &mut keys)?;
-    assert!(rt; now.is_ok());
+    let (known, new) = (agent_of("g7")?, agent_of("z")?);
+    let other = registered(rt.alloc(), &mut registrar, &new, 1, &mut keys);
+    let again = registered(rt.alloc(), &mut registrar, &known, 2, &mut keys);
+    let removed = registrar.remove(&known);
+    let now = registered(rt.alloc(), &mut registrar, &new, 1, &mut keys);
+    assert!(rt; other == Err(RegFault::Full) && again.is_ok() && removed.is_ok() && now.is_ok());
     one_activation();
     one_count();
     Ok(())

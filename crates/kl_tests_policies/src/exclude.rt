@@ -85,15 +85,33 @@ fn answer_so(
     Ok(same && patterns.are_joined() == at_once)
 }
 
-#[test]
-fn paths_are_excluded_as_python_matches_them(rt: HostRuntime) -> Result<(), Fail> {
-    let alloc = rt.alloc();
-    for (texts, paths, wanted) in MATCHED {
-        let list = compiled(alloc, texts)?;
-        let same = answer_so(alloc, list, paths, wanted, !texts.is_empty())?;
-        assert!(rt; same, "{texts:?}");
+/// Whether patterns of these texts answer so.
+fn are_matched(
+    alloc: Global,
+    texts: &[&str],
+    paths: &[&str],
+    wanted: &[bool],
+    at_once: bool,
+) -> bool {
+    match compiled(alloc, texts) {
+        Ok(list) => answer_so(alloc, list, paths, wanted, at_once) == Ok(true),
+        Err(_) => false,
     }
-    Ok(())
+}
+
+fn first_mismatched(alloc: Global) -> Option<usize> {
+    MATCHED.iter().position(|(texts, paths, wanted)| !are_matched(
+        alloc,
+        texts,
+        paths,
+        wanted,
+        !texts.is_empty(),
+    ))
+}
+
+#[test]
+fn paths_are_excluded_as_python_matches_them(rt: HostRuntime) {
+    assert_eq!(rt; first_mismatched(rt.alloc()), None);
 }
 
 /// One text several times, and another.
@@ -116,8 +134,7 @@ fn many_patterns_are_searched_for_at_once_where_they_fit(rt: HostRuntime) -> Res
     let alloc = rt.alloc();
     for (count, text, last, paths, wanted, at_once) in MANY {
         let texts = repeated(alloc, count, text, last)?;
-        let list = compiled(alloc, texts.as_slice())?;
-        let same = answer_so(alloc, list, paths, wanted, at_once)?;
+        let same = are_matched(alloc, texts.as_slice(), paths, wanted, at_once);
         assert!(rt; same, "{text}");
     }
     Ok(())

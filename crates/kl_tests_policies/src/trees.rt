@@ -57,19 +57,33 @@ const TREES: [(&str, bool); 8] = [
     ("1 2", false),
 ];
 
-#[test]
-fn a_tree_has_the_value_of_its_text(rt: HostRuntime) -> Result<(), Fail> {
-    for (text, known) in TREES {
-        let mut scratch = Scratch::new(rt.alloc());
-        let tree = tree_of(rt.alloc(), text, &mut scratch)?;
-        let value = match &tree {
-            Some(tree) => owned(rt.alloc(), tree)?,
-            None => None,
-        };
-        let parsed = parse(rt.alloc(), text.as_bytes()).ok();
-        assert!(rt; value == parsed && value.is_some() == known, "{text}");
+/// The value of the text's tree, where there is a tree and its value can be told; None where memory ran out.
+fn value_of_tree(alloc: Global, text: &str) -> Option<Option<Value>> {
+    let mut scratch = Scratch::new(alloc);
+    match tree_of(alloc, text, &mut scratch).ok()? {
+        Some(tree) => owned(alloc, &tree).ok(),
+        None => Some(None),
     }
-    Ok(())
+}
+
+/// Whether the text's tree has the value that is parsed, where it is known to have one.
+fn has_its_value(alloc: Global, text: &str, known: bool) -> bool {
+    let parsed = parse(alloc, text.as_bytes()).ok();
+    match value_of_tree(alloc, text) {
+        Some(value) => value == parsed && value.is_some() == known,
+        None => false,
+    }
+}
+
+fn first_of_another_value(alloc: Global) -> Option<usize> {
+    TREES
+        .iter()
+        .position(|(text, known)| !has_its_value(alloc, text, *known))
+}
+
+#[test]
+fn a_tree_has_the_value_of_its_text(rt: HostRuntime) {
+    assert_eq!(rt; first_of_another_value(rt.alloc()), None);
 }
 
 /// Whether there is a tree of the text.
@@ -129,55 +143,74 @@ fn members_have_a_name_and_a_kind(rt: HostRuntime) -> Result<(), Fail> {
     Ok(())
 }
 
+/// Numbers that are members of a value at the edge of their range and beyond it, and of a list.
+fn numbers(value: &Value, list: &Value) -> [Result<u64, JsonFault>; 5] {
+    [
+        number_member(value, "count", 7),
+        number_member(value, "count", 6),
+        number_member(value, "twice", 9),
+        number_member(value, "Count", 7),
+        number_member(list, "count", 7),
+    ]
+}
+
+/// Whether a value has a text, a list and an object as members.
+fn has_others(value: &Value) -> bool {
+    let text = text_member(value, "text").is_ok_and(|text| text == "x");
+    let items = list_member(value, "list").is_ok_and(|items| items.len() == 1);
+    text && items && object_member(value, "map").is_ok_and(|members| members.is_empty())
+}
+
 #[test]
 fn a_member_is_missing_or_too_large(rt: HostRuntime) -> Result<(), Fail> {
     let value = parse(rt.alloc(), OBJECT)?;
     let list = parse(rt.alloc(), b"[{\"count\": 7}]")?;
-    let cases = [
-        (number_member(&value, "count", 7), Ok(7)),
-        (
-            number_member(&value, "count", 6),
-            Err(JsonFault::Range("count")),
-        ),
-        (number_member(&value, "twice", 9), Ok(9)),
-        (
-            number_member(&value, "Count", 7),
-            Err(JsonFault::Missing("Count")),
-        ),
-        (
-            number_member(&list, "count", 7),
-            Err(JsonFault::Missing("count")),
-        ),
+    let wanted = [
+        Ok(7),
+        Err(JsonFault::Range("count")),
+        Ok(9),
+        Err(JsonFault::Missing("Count")),
+        Err(JsonFault::Missing("count")),
     ];
-    for (i, (given, expected)) in cases.into_iter().enumerate() {
-        assert!(rt; given == expected, "case {i}");
-    }
-    let text = text_member(&value, "text")?;
-    let items = list_member(&value, "list")?;
-    let members = object_member(&value, "map")?;
-    assert!(rt; text == "x" && items.len() == 1 && members.is_empty());
+    assert!(rt; numbers(&value, &list) == wanted && has_others(&value));
     Ok(())
+}
+
+/// A reply's text, None where memory ran out.
+fn written(alloc: Global) -> Option<String> {
+    let results = json!(in alloc; {"b": {}, "a": ["x", null, 70u64]}).ok()?;
+    reply_text(alloc, 200, "a \"b\"\n", results).ok()
+}
+
+/// Each fault, and what it prints.
+const PRINTED: [(JsonFault, &str); 5] = [
+    (JsonFault::NotJson, "the text is no JSON"),
+    (JsonFault::Missing("a"), "there is no member a"),
+    (JsonFault::Kind("b"), "the member b is of another kind"),
+    (JsonFault::Range("c"), "the number c is too large"),
+    (JsonFault::Memory, "out of memory"),
+];
+
+fn prints(alloc: Global, fault: &JsonFault, want: &str) -> bool {
+    match fault.to_string(alloc) {
+        Ok(shown) => shown.as_str() == want,
+        Err(_) => false,
+    }
+}
+
+fn first_misprinted(alloc: Global) -> Option<usize> {
+    PRINTED
+        .iter()
+        .position(|(fault, want)| !prints(alloc, fault, want))
 }
 
 #[test]
 fn what_is_written(rt: HostRuntime) -> Result<(), Fail> {
-    let results = json!(in rt.alloc(); {"b": {}, "a": ["x", null, 70u64]})?;
-    let text = reply_text(rt.alloc(), 200, "a \"b\"\n", results)?;
+    let text = written(rt.alloc()).ok_or("memory is left")?;
     assert_eq!(rt;
         text.as_str(),
         "{\"code\":200,\"results\":{\"a\":[\"x\",null,70],\"b\":{}},\"status\":\"a \\\"b\\\"\\n\"}"
     );
-    let shown = format!(in rt.alloc();
-        "{}, {}, {}, {}, {}",
-        JsonFault::NotJson,
-        JsonFault::Missing("a"),
-        JsonFault::Kind("b"),
-        JsonFault::Range("c"),
-        JsonFault::Memory
-    )?;
-    assert_eq!(rt;
-        shown.as_str(),
-        "the text is no JSON, there is no member a, the member b is of another kind, the number c is too large, out of memory"
-    );
+    assert_eq!(rt; first_misprinted(rt.alloc()), None);
     Ok(())
 }

@@ -20,7 +20,7 @@ use std::test::Fail;
 const AK: &[u8] = b"k1";
 
 /// PCRs 10 and 16.
-const MASK: u32 = 1 << 10 | 1 << 16;
+pub const MASK: u32 = 1 << 10 | 1 << 16;
 
 fn evidence(alloc: Global, start: u64, public: &str, quote: &str, list: &str) -> Option<Evidence> {
     let bank = String::from_str(alloc, "sha256").ok()?;
@@ -31,7 +31,7 @@ fn evidence(alloc: Global, start: u64, public: &str, quote: &str, list: &str) ->
 }
 
 /// The terms of an agent that quotes these PCRs.
-fn terms(alloc: Global, mask: u32) -> Option<Terms> {
+pub fn terms(alloc: Global, mask: u32) -> Option<Terms> {
     let policy = read_flat(alloc, POLICY).ok()?;
     let contact = String::from_str(alloc, "agent").ok()?;
     let ak = Vec::from_slice(alloc, AK).ok()?;

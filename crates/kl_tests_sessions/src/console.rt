@@ -49,11 +49,11 @@ const PLAIN: Case<'static> = Case {
 
 /// The pieces, one behind the other.
 fn joined(alloc: Global, pieces: &[&str]) -> Result<Vec<u8>, AllocError> {
-    let mut all = Vec::new(alloc);
+    let mut all = String::new(alloc);
     for piece in pieces {
-        all.extend_from_slice(piece.as_bytes())?;
+        all.push_str(piece)?;
     }
-    Ok(all)
+    Ok(all.into_bytes())
 }
 
 /// Whether a run goes as its case says.

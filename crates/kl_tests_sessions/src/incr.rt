@@ -2,13 +2,12 @@
 
 ghost use Rattle.std.specs.Prelude.{◌≡◌, ◌≤◌};
 
+use crate::appraise::{MASK, terms};
 use crate::bytes::*;
-use kl_appraise::{SharedTerms, Terms};
-use kl_bank::Bank;
+use kl_appraise::SharedTerms;
 use kl_incr::*;
 use kl_keys::MacKeys;
 use kl_pcr::Steps;
-use kl_policy::read_flat;
 use kl_quote::Evidence;
 use kl_states::{AgentId, DropWhy, EntryCause, FailedCause, InvalidCause, Nonce, Verdict};
 use std::alloc::Global;
@@ -16,22 +15,16 @@ use std::marker::Brand;
 use std::sync::ledger::{Blank, Ledger};
 use std::test::Fail;
 
-fn terms(alloc: Global) -> Result<SharedTerms, Fail> {
-    let policy = read_flat(alloc, POLICY).ok().ok_or("it is a policy")?;
-    let contact = String::from_str(alloc, "agent")?;
-    let ak = Vec::from_slice(alloc, b"k1")?;
-    let mask = 1 << 10 | 1 << 16;
-    let statics = Vec::new(alloc);
-    let made = Terms::new(contact, Bank::Sha256, mask, statics, ak, None, policy);
-    let terms = made.ok().ok_or("they are terms")?;
-    Ok(SharedTerms::new(alloc, terms).ok().ok_or("memory")?)
+fn shared_terms(alloc: Global) -> Option<SharedTerms> {
+    SharedTerms::new(alloc, terms(alloc, MASK)?).ok()
 }
 
 /// The ticket of poll 7 of the agent `a1`, of generation 3, with the nonce `n1`; nothing is kept.
 fn ticket(alloc: Global) -> Result<Ticket, Fail> {
     let agent = AgentId::from_bytes(b"a1").ok_or("it is an id")?;
     let nonce = Nonce::from_bytes(b"n1").ok_or("it is a nonce")?;
-    Ok(Ticket::new(7, agent, 3, nonce, terms(alloc)?, None))
+    let terms = shared_terms(alloc).ok_or("memory is left")?;
+    Ok(Ticket::new(7, agent, 3, nonce, terms, None))
 }
 
 fn evidence(alloc: Global, quote: &str, list: &str) -> Result<Evidence, Fail> {

@@ -50,6 +50,14 @@ const SHARES: [(Made, Option<Op>); 9] = [
     (OWN, None),
 ];
 
+/// Whether a book of its own makes a share as wanted, and the state of the agent where it settles this book's release.
+fn settled_by(book: &mut Book, alloc: Global, made: &Made) -> Result<(bool, Option<Op>), Fail> {
+    let (_other, share) = made_by(alloc, made)?;
+    let made_so = is_made_so(&share, made);
+    let state = withdrawn(book, share);
+    Ok((made_so?, state))
+}
+
 #[test]
 fn a_share_of_other_values_settles_nothing_and_an_equal_one_settles_once(
     rt: HostRuntime,
@@ -58,10 +66,7 @@ fn a_share_of_other_values_settles_nothing_and_an_equal_one_settles_once(
     let (mut book, own) = made_by(alloc, &OWN)?;
     own.discard();
     for (made, op) in SHARES {
-        let (_other, share) = made_by(alloc, &made)?;
-        let made_so = is_made_so(&share, &made);
-        let settled = withdrawn(&mut book, share);
-        assert!(rt; made_so? && settled == op);
+        assert!(rt; settled_by(&mut book, alloc, &made)? == (true, op));
     }
     Ok(())
 }

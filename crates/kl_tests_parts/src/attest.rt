@@ -11,7 +11,7 @@ const SELECTIONS: &str = "00000001000b03000401";
 
 const BEHIND: &str = "0020c0c1c2c3c4c5c6c7c8c9cacbcccdcecfd0d1d2d3d4d5d6d7d8d9dadbdcdddedf";
 
-/// The quote with these selections, None where memory ran out.
+/// The quote with these selections, None where these are no digits or memory ran out.
 fn selecting(alloc: Global, selections: &str) -> Option<Vec<u8>> {
     match format!(in alloc; "{FRONT}{selections}{BEHIND}") {
         Ok(digits) => hex::decode(alloc, digits.as_str()).ok(),

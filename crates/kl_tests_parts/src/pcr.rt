@@ -11,8 +11,6 @@ use std::marker::Brand;
 use std::sync::ledger::{Blank, Ledger};
 use std::test::Fail;
 
-const BANKS: [Bank; 3] = [Bank::Sha1, Bank::Sha256, Bank::Sha384];
-
 fn measured_from<L: Ledger>(bank: Bank, entry: &Entry<'_>, blank: Blank) -> (Digest, Digest)
     requires name { blank.name ≡ L.name }
     requires parts { blank.parts ≡ L.parts }
@@ -36,7 +34,7 @@ fn both_measured(bank: Bank, entry: &Entry<'_>) -> (Digest, Digest)
     measured_from::<Brand>(bank, entry, Blank::new(1))
 }
 
-/// The digests of the first and of the last entry, and the end of a replay of all.
+/// Each bank, with what the first entry is measured as and the end of a replay of all three.
 const REPLAYS: [(Bank, &str); 3] = [
     (
         Bank::Sha1,
@@ -52,7 +50,7 @@ const REPLAYS: [(Bank, &str); 3] = [
     ),
 ];
 
-/// Whether `boot_aggregate`, a violation and `/bin/a b` are measured and replayed so; each digest is of so many such bytes.
+/// Whether `boot_aggregate`, a violation and `/bin/a b` are measured and replayed so.
 fn is_replayed(alloc: Global, bank: Bank, hash_and_end: &str) -> bool {
     let (Some(boot), Some(file)) = (
         FileDigest::from_bytes(&[0xAB; 32]),

@@ -81,10 +81,10 @@ fn an_agent_is_active_by_the_tag_under_its_latest_secret(rt: HostRuntime) -> Res
     let first = gets(rt.alloc(), &mut registrar, &a1, 1, &mut keys, BLOBS[0]);
     let second = gets(rt.alloc(), &mut registrar, &a1, 2, &mut keys, BLOBS[1]);
     assert!(rt; first && second);
-    let (wrong, none) = (Err(RegFault::WrongTag), Some(RegFault::NotActive));
+    let (wrong, inactive) = (Err(RegFault::WrongTag), Some(RegFault::NotActive));
     for (tag, answer, fault) in [
-        (FIRST, wrong, none),
-        ("", wrong, none),
+        (FIRST, wrong, inactive),
+        ("", wrong, inactive),
         (upper.as_str(), Ok(()), None),
         (FIRST, wrong, None),
         (SECOND, Ok(()), None),

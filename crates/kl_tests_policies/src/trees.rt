@@ -66,7 +66,7 @@ fn value_of_tree(alloc: Global, text: &str) -> Option<Option<Value>> {
     }
 }
 
-/// Whether the text's tree has the value that is parsed, where it is known to have one.
+/// Whether the text's tree has the value that is parsed, and there is one exactly where it is known.
 fn has_its_value(alloc: Global, text: &str, known: bool) -> bool {
     let parsed = parse(alloc, text.as_bytes()).ok();
     match value_of_tree(alloc, text) {
